@@ -1,0 +1,4 @@
+pub mod Displacement
+pub mod Spelling
+pub mod Changes
+pub mod Write

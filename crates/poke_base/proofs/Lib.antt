@@ -1,0 +1,5 @@
+pub mod Numbers
+pub mod WordLemmas
+pub mod Files
+pub mod Listed
+pub mod Outsides

@@ -1,0 +1,7 @@
+pub mod Text
+pub mod Number
+pub mod Host
+pub mod Stored
+pub mod Gives
+pub mod MemoryHost
+pub mod RealHost

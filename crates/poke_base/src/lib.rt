@@ -1,0 +1,24 @@
+//! What every crate of `textpoke` stands on: the outside of a program as a trait with two
+//! implementations, a bounded line of text, numbers and words.
+#![tactic(auto)]
+
+pub mod host;
+pub mod line;
+pub mod memory;
+pub mod number;
+pub mod real;
+mod store;
+pub mod words;
+
+pub use host::{AskedBy, Host, ReadFail, WriteFail};
+pub use line::{CodeBytes, Line, put_bytes, put_dec, put_hex, put_text};
+pub use memory::MemoryHost;
+pub use number::{read_dec, read_hex};
+pub use real::RealHost;
+use thiserror::Error;
+pub use words::next_word;
+
+/// Memory for a value wasn't there.
+#[derive(Clone, Copy, Debug, PartialEq, Eq, Error)]
+#[error("no memory")]
+pub struct NoMemory;

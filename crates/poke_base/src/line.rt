@@ -1,0 +1,114 @@
+//! A bounded line of text, and what is put into it.
+ghost use Rattle.std.specs.Prelude.{◌≡◌, ◌≤◌, ◌+◌, ◌*◌, ◌++◌, ◌∷◌, [], ◌<◌, Some, codes, length, slice_index};
+ghost use Rattle.arrayvec.specs.ArrayVec.{array_vec_len};
+ghost use Rattle.hex.specs.Hex.{encode_lower};
+ghost use Rattle.poke_base.specs.Number.{spelling, hexadecimal, decimal, hex_number, dec_number};
+
+use arrayvec::ArrayVec;
+
+/// One line of output: at most 96 bytes.
+pub type Line = ArrayVec<u8, 96>;
+
+/// The bytes of one instruction: at most 9.
+pub type CodeBytes = ArrayVec<u8, 9>;
+
+/// Adds a text to the line, which has to have room for it.
+pub fn put_text(line: &mut Line, text: &[u8])
+    requires { array_vec_len line.old + length text.now ≤ 96 }
+    ensures { line.new.items ≡ line.old.items ++ text.now }
+{
+    let _ = line.try_extend_from_slice(text);
+}
+
+/// Adds each byte as two hexadecimal digits in lower case. The line has to have room for them.
+pub fn put_bytes(line: &mut Line, bytes: &[u8])
+    requires { array_vec_len line.old + 2 * length bytes.now ≤ 96 }
+    ensures { line.new.items ≡ line.old.items ++ encode_lower bytes.now }
+{
+    let mut buffer = [0; 96];
+    let digits = &mut buffer[..2 * bytes.len()];
+    // It fits: `digits` is twice as long as `bytes`.
+    let _ = hex::encode_to_slice(bytes, digits);
+    put_text(line, digits);
+}
+
+/// Adds the digit of a value below 16. The line has to have room for it.
+fn put_digit(line: &mut Line, value: u64)
+    requires digit { value < 16 }
+    requires room { array_vec_len line.old < 96 }
+    ensures { line.new.items ≡ line.old.items ++ slice_index (codes "0123456789abcdef") value ∷ [] }
+{
+    const DIGITS: &[u8; 16] = b"0123456789abcdef";
+    line.push(DIGITS[value as usize]);
+}
+
+/// Adds a number's digits in a base from 2 to 16. The line has to have room for them.
+fn put_digits(line: &mut Line, base: u64, n: u64)
+    requires least { 2 ≤ base }
+    requires most { base ≤ 16 }
+    requires room { array_vec_len line.old + length (spelling base n) ≤ 96 }
+    ensures { line.new.items ≡ line.old.items ++ spelling base n }
+{
+    if n < base {
+        put_digit(line, n);
+    } else {
+        put_digits(line, base, n / base);
+        put_digit(line, n % base);
+    }
+}
+
+/// Adds a number in hexadecimal, in lower case, without a prefix and without leading zeros. The
+/// line has to have room for it; `read_hex` reads it back.
+pub fn put_hex(line: &mut Line, n: u64)
+    requires { array_vec_len line.old + length (hexadecimal n) ≤ 96 }
+    ensures added { line.new.items ≡ line.old.items ++ hexadecimal n }
+    ensures short { length (hexadecimal n) ≤ 16 }
+    ensures reads_back { hex_number (hexadecimal n) ≡ Some n }
+{
+    put_digits(line, 16, n);
+}
+
+/// Adds a number in decimal, without leading zeros. The line has to have room for it; `read_dec`
+/// reads it back.
+pub fn put_dec(line: &mut Line, n: u64)
+    requires { array_vec_len line.old + length (decimal n) ≤ 96 }
+    ensures added { line.new.items ≡ line.old.items ++ decimal n }
+    ensures short { length (decimal n) ≤ 20 }
+    ensures reads_back { dec_number (decimal n) ≡ Some n }
+{
+    put_digits(line, 10, n);
+}
+
+#[cfg(test)]
+mod tests {
+    use super::{Line, put_bytes, put_dec, put_hex, put_text};
+
+    #[test]
+    #[tactic(auto, using(crate::proofs::Numbers::line_room))]
+    fn numbers_and_bytes_are_spelt(rt: HostRuntime) {
+        let hexadecimal: [(u64, &[u8]); 3] = [
+            (0, b"0"),
+            (0x0040_1000, b"401000"),
+            (u64::MAX, b"ffffffffffffffff"),
+        ];
+        for (number, spelling) in hexadecimal {
+            let mut line = Line::new();
+            put_hex(&mut line, number);
+            assert_eq!(rt; line.as_slice(), spelling);
+        }
+        let decimal: [(u64, &[u8]); 3] = [
+            (0, b"0"),
+            (10, b"10"),
+            (u64::MAX, b"18446744073709551615"),
+        ];
+        for (number, spelling) in decimal {
+            let mut line = Line::new();
+            put_dec(&mut line, number);
+            assert_eq!(rt; line.as_slice(), spelling);
+        }
+        let mut line = Line::new();
+        put_text(&mut line, b"w ");
+        put_bytes(&mut line, &[0xcc, 0x0f, 0]);
+        assert_eq!(rt; line.as_slice(), b"w cc0f00".as_slice());
+    }
+}

@@ -1,0 +1,5 @@
+mod Examples
+mod Patches
+mod Stages
+pub mod Walks
+pub mod Flags

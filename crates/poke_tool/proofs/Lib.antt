@@ -1,0 +1,4 @@
+pub mod Endings
+pub mod PlanLines
+pub mod Plans
+pub mod PlanRuns

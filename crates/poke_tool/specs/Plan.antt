@@ -1,0 +1,46 @@
+-- What `plan` prints, and from what.
+use Rattle.std.specs.Prelude.{◌≡◌, ℕ, List, [], ◌∷◌, ◌++◌, codes, drop, Option, Some, Result, Ok, Err}
+use Rattle.std.specs.List.{flat_map}
+use Rattle.std.specs.FinMap.{get}
+use Rattle.hex.specs.Hex.{encode_lower}
+use Rattle.poke_base.specs.Host.{Files, Outside, Rose, Tells, with_more}
+use Rattle.poke_base.specs.Text.{IsFront}
+use Rattle.poke_base.specs.Number.{hexadecimal}
+use Rattle.insn_forms.specs.declared.forms.Change.{Change}
+use Rattle.poke_batch.specs.declared.batch.Due.{Due}
+use Rattle.poke_batch.specs.declared.batch.Due.TheVariants.{Idle, Write, Request, Wait, Return}
+use Rattle.poke_batch.specs.Walk.{Walk, due_of, to_come}
+use Rattle.poke_batch.specs.Poke.{Item, items}
+use Rattle.poke_batch.specs.Poke.Item.{Puts, Syncs}
+use Rattle.poke_tool.specs.declared.plan_line.PlanRefused.{PlanRefused}
+use Rattle.poke_tool.specs.PlanLine.{PokeLine}
+
+-- the line of an item: `w ADDRESS BYTE` or `sync`
+abbrev pub item_line : Item → List ℕ
+item_line (Puts w) = codes "w " ++ hexadecimal w.at ++ codes " " ++ encode_lower (w.byte ∷ []) ++ 10 ∷ []
+item_line Syncs = codes "sync" ++ 10 ∷ []
+
+-- the poke of one change, line by line
+abbrev pub poke_text : Change → List ℕ
+poke_text change = flat_map item_line (items (change ∷ []))
+
+-- the items that are still to be printed: where a synchronisation is waited for, its line was printed
+abbrev pub behind_wait : Due → List Item → List Item
+behind_wait Idle items = items
+behind_wait (Write at byte) items = items
+behind_wait Request items = items
+behind_wait Wait items = drop 1 items
+behind_wait Return items = items
+
+abbrev pub to_print : Option Walk → List Item
+to_print update = behind_wait (due_of update) (to_come update)
+
+-- a file that holds a text, where the files are told
+abbrev pub Holds : Outside → List ℕ → List ℕ → Type 0
+Holds outside file text = (files : Files) → outside.files ≡ Some files → get files file ≡ Some text
+
+-- the file says this of the plan
+pub record SaysPlan (outside : Outside) (file : List ℕ) (said : Result Change PlanRefused) : Type 0 where
+  pub text : List ℕ
+  pub holds : Holds outside file text
+  pub says : PokeLine text said

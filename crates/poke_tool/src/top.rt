@@ -1,0 +1,50 @@
+//! The whole program as one call.
+ghost use Rattle.std.specs.Prelude.{◌≡◌, ◌≢◌, ◌↔◌, ℕ, List, None, Some};
+ghost use Rattle.poke_base.specs.Host.{Rose};
+ghost use Rattle.poke_tool.specs.Command.{Plan as PlanRow, row, row_of, words_of};
+ghost use Rattle.poke_tool.specs.Runs.{DoesRow, LeavesAll, Runs};
+ghost use Rattle.poke_tool.specs.Endings.{AsksInOrder, EndsAloud, PlanEnds};
+
+use crate::command::Command;
+use crate::fault::Fault;
+use crate::plan::plan;
+use poke_base::Host;
+use std::alloc::Global;
+
+/// Does the command that the words are, and answers the status with which the program ends. The
+/// words don't have the program's name.
+///
+/// 0: done. 1: the words are no command. 3: the plan file was refused. 5: a file wasn't read.
+/// 6: a write failed. 7: want of memory, which comes before anything is printed. At every status but
+/// 0 the reason is complained in one line; a complaint that fails leaves the status as it is.
+pub fn textpoke<H: Host>(alloc: Global, words: &[String], host: &mut H) -> u8
+    ensures runs { Runs (words_of words.now) (H.outside host.old) (H.outside host.new) result }
+
+    ensures bad_words { (result ≡ 1) ↔ (row_of (words_of words.now) ≡ None) }
+    ensures read_fault { result ≡ 5 → Rose (H.outside host.old).read_faults (H.outside host.new).read_faults }
+    ensures write_fault { result ≡ 6 → Rose (H.outside host.old).write_faults (H.outside host.new).write_faults }
+    ensures leaves_all { result ≢ 0 → result ≢ 6 → LeavesAll (H.outside host.old) (H.outside host.new) }
+    ensures asks_in_order { AsksInOrder (row_of (words_of words.now)) (H.outside host.old) (H.outside host.new) result }
+    ensures ends_aloud { EndsAloud (H.outside host.old) (H.outside host.new) result }
+
+    ensures plan { (file : List ℕ) → row_of (words_of words.now) ≡ Some (PlanRow file) → PlanEnds file (H.outside host.old) (H.outside host.new) result }
+{
+    match do_command(alloc, words, host) {
+        Ok(()) => 0,
+        Err(fault) => {
+            // The status says why, whether the complaint goes out or not.
+            let _ = host.complain(fault.complaint());
+            fault.status()
+        }
+    }
+}
+
+/// Does the command that the words are.
+fn do_command<H: Host>(alloc: Global, words: &[String], host: &mut H) -> Result<(), Fault>
+    ensures { DoesRow (row_of (words_of words.now)) (H.outside host.old) (H.outside host.new) result }
+{
+    match Command::read(words) {
+        None => Err(Fault::Words),
+        Some(Command::Plan { file }) => plan(alloc, file, host),
+    }
+}
