@@ -1,6 +1,5 @@
 -- The sentences on how the program ends follow from `Runs`, by cases on what the command answered.
-use Rattle.std.proofs.Common.{◌≡◌, ◌≢◌, ◌≤◌, ◌⊎◌, ◌↔◌, ℕ, List, [], ◌∷◌, length, take, IsSome, Option, Some, None, Result, Ok, Err, IfErr, OnErr, refl, sym, ap, ◌∙◌, subst, inl, inr, append-nil, arith}
-use Rattle.poke_base.specs.declared.host.WriteFail.{WriteFail}
+use Rattle.std.proofs.Common.{◌≡◌, ◌≢◌, ◌↔◌, ℕ, List, take, IsSome, Option, Some, None, Result, Ok, Err, IfErr, OnErr, refl, sym, ap, ◌∙◌, subst, inl, inr, arith}
 use Rattle.poke_base.specs.Host.{Outside, Rose, Tells, Complains, Adds, with_more}
 use Rattle.insn_forms.specs.declared.forms.Change.{Change}
 use Rattle.poke_base.proofs.Outsides.{Tells-no_more, Tells-trans}
@@ -15,9 +14,9 @@ use Rattle.insn_forms.specs.Spelling.{spell}
 use Rattle.poke_tool.specs.declared.plan_line.PlanRefused.TheVariants.{TooLong, Line, NoReach, Old}
 use Rattle.poke_tool.specs.declared.plan_line.Wish.{Wish}
 use Rattle.poke_tool.specs.PlanLine.{PokeLine, IsWished}
-use Rattle.poke_tool.specs.Plan.{SaysPlan, Holds, poke_text}
-use Rattle.poke_tool.specs.Runs.{RunsRow, Ends, Does, DoesPlan, Fails, Keeps, LeavesAll, PrintsText, PrintsFront}
-use Rattle.poke_tool.specs.Endings.{AsksInOrder, Complained, EndsAloud, ToldToHold, PlanEnds, names_of}
+use Rattle.poke_tool.specs.Plan.{SaysPlan, poke_text}
+use Rattle.poke_tool.specs.Runs.{RunsRow, Ends, Does, DoesPlan, Fails, Keeps, LeavesAll, PrintsText}
+use Rattle.poke_tool.specs.Endings.{AsksInOrder, Complained, EndsAloud, ToldToHold, PlanEnds}
 
 -- what is added to the middle is added to what was before
 more_later : {A : Type 0} (a b : Option (List A)) (more : List A) → Tells a b → Tells (with_more a more) (with_more b more)

@@ -1,16 +1,13 @@
 -- Lemmas on reading a plan file.
-use Rattle.std.proofs.Common.{◌≡◌, ◌≢◌, ◌≤◌, ◌<◌, ◌+◌, ◌↔◌, ℕ, List, [], ◌∷◌, length, take, drop, Option, Some, None, Result, Ok, Err, IsSome, refl, sym, ap, ◌∙◌, subst, arith, length-drop}
+use Rattle.std.proofs.Common.{◌≡◌, ◌≤◌, ◌<◌, ◌+◌, ◌↔◌, ℕ, List, [], ◌∷◌, length, take, drop, Option, Some, None, refl, sym, ap, ◌∙◌, subst, arith, length-drop}
 use Rattle.std.specs.List.{position_or_len, before_first, after_first}
 use Rattle.std.proofs.lemmas.Grind.{common_steps}
 use Rattle.poke_base.specs.Text.{IsFront}
 use Rattle.insn_forms.specs.declared.forms.Form.{Form}
-use Rattle.insn_forms.specs.declared.forms.Change.{Change}
-use Rattle.insn_forms.specs.Spelling.{spell, size, BeginsWith}
+use Rattle.insn_forms.specs.Spelling.{size, BeginsWith}
 use Rattle.insn_forms.proofs.Spellings.{length-spell}
 use Rattle.poke_tool.specs.declared.plan_line.Wish.{Wish}
-use Rattle.poke_tool.specs.declared.plan_line.PlanRefused.{PlanRefused}
-use Rattle.poke_tool.specs.declared.plan_line.PlanRefused.TheVariants.{TooLong, Line, NoReach, Old}
-use Rattle.poke_tool.specs.PlanLine.{is_line_feed, if_last, only_line, IsOldForm, IsWished, PokeLine, wish_of}
+use Rattle.poke_tool.specs.PlanLine.{is_line_feed, if_last, only_line, IsOldForm}
 
 -- a line with nothing behind it
 if_last-nothing : (line rest : List ℕ) → length rest ≡ 0 → if_last line rest ≡ Some line

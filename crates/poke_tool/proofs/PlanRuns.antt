@@ -1,9 +1,8 @@
 -- The ways through `plan`: each of them is what `DoesPlan` says.
-use Rattle.std.proofs.Common.{◌≡◌, ◌≤◌, ◌<◌, ◌+◌, ℕ, List, [], ◌∷◌, length, take, Option, Some, None, IsSome, Result, Ok, Err, IfErr, OnOk, unwrap_or, refl, sym, ap, ◌∙◌, subst, arith}
+use Rattle.std.proofs.Common.{◌≡◌, ◌<◌, ℕ, List, [], ◌∷◌, length, Option, Some, None, Result, Ok, Err, IfErr, OnOk, unwrap_or, refl, ap, ◌∙◌, subst, arith}
 use Rattle.std.specs.FinMap.{get}
 use Rattle.std.specs.List.{flat_map}
 use Rattle.poke_base.specs.declared.host.AskedBy.TheVariants.{Read as AskedRead}
-use Rattle.poke_base.specs.declared.host.ReadFail.{ReadFail}
 use Rattle.poke_base.specs.declared.host.ReadFail.TheVariants.{TooLong as FileTooLong}
 use Rattle.poke_base.specs.declared.host.WriteFail.{WriteFail}
 use Rattle.poke_base.specs.Text.{IsFront}
@@ -18,8 +17,8 @@ use Rattle.poke_tool.specs.declared.plan_line.PlanRefused.{PlanRefused}
 use Rattle.poke_tool.specs.declared.plan_line.PlanRefused.TheVariants.{TooLong}
 use Rattle.poke_tool.specs.Command as command
 use Rattle.poke_tool.specs.PlanLine.{PokeLine}
-use Rattle.poke_tool.specs.Plan.{SaysPlan, item_line, poke_text}
-use Rattle.poke_tool.specs.Runs.{DoesPlan, Fails, Keeps, MakesNothing, PrintsFront}
+use Rattle.poke_tool.specs.Plan.{SaysPlan, item_line}
+use Rattle.poke_tool.specs.Runs.{DoesPlan, Fails, Keeps, MakesNothing}
 
 -- what was read is what the file holds
 read_holds : (old new : Outside) (file out : List ℕ) (said : Result Change PlanRefused) → ReadsFile {T = Unit {0}} old new file 256 out (Ok tt) → PokeLine out said → SaysPlan new file said

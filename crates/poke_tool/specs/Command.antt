@@ -3,7 +3,7 @@ use Rattle.std.specs.Prelude.{ℕ, if◌then◌else◌, List, [], ◌∷◌, map
 use Rattle.std.specs.declared.alloc.Global.{Global}
 use Rattle.std.specs.Str.{bytes_eq}
 use Rattle.poke_base.specs.declared.host.AskedBy.{AskedBy}
-use Rattle.poke_base.specs.declared.host.AskedBy.TheVariants.{Read, Make}
+use Rattle.poke_base.specs.declared.host.AskedBy.TheVariants.{Read}
 use Rattle.poke_tool.specs.declared.command.Command.{Command}
 use Rattle.poke_tool.specs.declared.command.Command.TheVariants.{Plan as WithPlan}
 

@@ -1,10 +1,9 @@
 -- What `plan` prints, and from what.
-use Rattle.std.specs.Prelude.{◌≡◌, ℕ, List, [], ◌∷◌, ◌++◌, codes, drop, Option, Some, Result, Ok, Err}
+use Rattle.std.specs.Prelude.{◌≡◌, ℕ, List, [], ◌∷◌, ◌++◌, codes, drop, Option, Some, Result}
 use Rattle.std.specs.List.{flat_map}
 use Rattle.std.specs.FinMap.{get}
 use Rattle.hex.specs.Hex.{encode_lower}
-use Rattle.poke_base.specs.Host.{Files, Outside, Rose, Tells, with_more}
-use Rattle.poke_base.specs.Text.{IsFront}
+use Rattle.poke_base.specs.Host.{Files, Outside}
 use Rattle.poke_base.specs.Number.{hexadecimal}
 use Rattle.insn_forms.specs.declared.forms.Change.{Change}
 use Rattle.poke_batch.specs.declared.batch.Due.{Due}

@@ -1,5 +1,5 @@
 -- What the whole program does to the outside, and with which status it ends.
-use Rattle.std.specs.Prelude.{◌≡◌, ◌≤◌, ℕ, List, [], ◌∷◌, length, take, Option, Some, None, Result, Ok, Err, OnOk, IfErr, ⊤}
+use Rattle.std.specs.Prelude.{◌≡◌, ◌≤◌, ℕ, List, length, take, Option, Some, None, Result, Ok, Err, OnOk, IfErr, ⊤}
 use Rattle.poke_base.specs.declared.host.WriteFail.{WriteFail}
 use Rattle.poke_base.specs.Host.{Outside, Rose, Tells, with_more, Complains}
 use Rattle.poke_base.specs.Text.{IsFront}

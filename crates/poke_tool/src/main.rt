@@ -5,6 +5,8 @@ mod command;
 mod fault;
 mod plan;
 mod plan_line;
+#[cfg(test)]
+mod tests;
 mod top;
 
 use crate::fault::Fault;

@@ -1,4 +1,4 @@
-use Rattle.std.proofs.Common.{◌≡◌, not, rules}
+use Rattle.std.proofs.Common.{not}
 use Rattle.std.proofs.lemmas.List.Sums.{prefix_len-le-length}
 use Rattle.poke_tool.specs.PlanLine.{is_line_feed}
 use Rattle.poke_tool.proofs.PlanLines.{only_line-one, only_line-more}

@@ -1,9 +1,8 @@
-use Rattle.std.proofs.Common.{◌≡◌, List, ℕ, Option, Some, Err, subst}
+use Rattle.std.proofs.Common.{List, ℕ, Option, Err, subst}
 use Rattle.poke_base.specs.declared.host.WriteFail.{WriteFail}
 use Rattle.poke_base.specs.Host.{Complains}
 use Rattle.poke_tool.specs.Command.{Row, row_of, words_of}
 use Rattle.poke_tool.specs.Runs.{RunsRow}
-use Rattle.poke_tool.specs.Endings.{PlanEnds}
 use Rattle.poke_tool.proofs.Endings.{asks_in_order, bad_words, ends_aloud, leaves_all, plan_ends, read_fault, write_fault}
 use Rattle.poke_tool.proofs.top.textpoke.Goals as goal
 
