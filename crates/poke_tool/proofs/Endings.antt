@@ -1,11 +1,18 @@
 -- The sentences on how the program ends follow from `Runs`, by cases on what the command answered.
-use Rattle.std.proofs.Common.{◌≡◌, ◌≢◌, ◌↔◌, ℕ, List, take, IsSome, Option, Some, None, Result, Ok, Err, IfErr, OnErr, refl, sym, ap, ◌∙◌, subst, inl, inr, arith}
-use Rattle.poke_base.specs.Host.{Outside, Rose, Tells, Complains, Adds, with_more}
+use Rattle.std.proofs.Common.{◌≡◌, ◌≢◌, ◌↔◌, ℕ, List, take, IsSome, Option, Some, None, Result, Ok, Err, IfErr, OnErr, refl, sym, ap, ◌∙◌, subst, inl, inr, lit<, arith, ◌<◌, ◌⊎◌}
+use Rattle.poke_base.specs.Host.{Files, Outside, Rose, Tells, Complains, Adds, with_more}
 use Rattle.insn_forms.specs.declared.forms.Change.{Change}
 use Rattle.poke_base.proofs.Outsides.{Tells-no_more, Tells-trans}
 use Rattle.poke_tool.specs.declared.fault.Fault.{Fault}
-use Rattle.poke_tool.specs.declared.fault.Fault.TheVariants.{Words, Plan, Read, Write, Memory}
+use Rattle.poke_tool.specs.declared.fault.Fault.TheVariants.{Words, Module, Plan, Read, Write, Memory}
 use Rattle.poke_tool.specs.declared.plan_line.PlanRefused.{PlanRefused}
+use Rattle.elf_module.specs.declared.refused.ElfRefused.{ElfRefused}
+use Rattle.elf_module.specs.declared.refused.ElfRefused.TheVariants.{Short, Magic, Class, Data, Version, Machine, Kind, Relocatable, Headers, Section, Names, Symbols}
+use Rattle.elf_module.specs.Refusals.{order}
+use Rattle.site_tables.specs.declared.entries.TableKind.TheVariants.{Jump, Call, Trace}
+use Rattle.poke_tool.specs.declared.module_fault.ModuleRefused.{ModuleRefused}
+use Rattle.poke_tool.specs.declared.module_fault.ModuleRefused.TheVariants.{TooLong as LongModule, Elf, Table}
+use Rattle.poke_tool.specs.Module.{ModuleShows}
 use Rattle.poke_tool.specs.Command as command
 use Rattle.poke_tool.specs.Command.{Row, row_of, file_words}
 use Rattle.poke_tool.specs.Fault.{status_of, complaint_of}
@@ -14,9 +21,9 @@ use Rattle.insn_forms.specs.Spelling.{spell}
 use Rattle.poke_tool.specs.declared.plan_line.PlanRefused.TheVariants.{TooLong, Line, NoReach, Old}
 use Rattle.poke_tool.specs.declared.plan_line.Wish.{Wish}
 use Rattle.poke_tool.specs.PlanLine.{PokeLine, IsWished}
-use Rattle.poke_tool.specs.Plan.{SaysPlan, poke_text}
-use Rattle.poke_tool.specs.Runs.{RunsRow, Ends, Does, DoesPlan, Fails, Keeps, LeavesAll, PrintsText}
-use Rattle.poke_tool.specs.Endings.{AsksInOrder, Complained, EndsAloud, ToldToHold, PlanEnds}
+use Rattle.poke_tool.specs.Plan.{Holds}
+use Rattle.poke_tool.specs.Runs.{RunsRow, Ends, Does, Fails, Keeps, LeavesAll, PrintsSaid, PrintsText, Says}
+use Rattle.poke_tool.specs.Endings.{AsksInOrder, Complained, EndsAloud, EndsSaying}
 
 -- what is added to the middle is added to what was before
 more_later : {A : Type 0} (a b : Option (List A)) (more : List A) → Tells a b → Tells (with_more a more) (with_more b more)
@@ -31,17 +38,10 @@ added_later a b c piece (Err why) ab added = record {
   part = (added.part.0, added.part.1, Tells-trans _ _ c (more_later a b added.part.0 ab) added.part.2);
 }
 
--- a file that says a plan in the middle says it at the end
-says_later : (middle new : Outside) (file : List ℕ) (said : Result Change PlanRefused) → Tells middle.files new.files → SaysPlan middle file said → SaysPlan new file said
-says_later middle new file said tells says = record {
-  text = says.text;
-  holds = λ files e. says.holds files (tells.told files e);
-  says = says.says;
-}
-
 -- no fault has the status 0
 no_fault_is_0 : (fault : Fault) (status : ℕ) → status ≡ status_of fault → status ≡ 0 → ⊥
 no_fault_is_0 Words status is zero_is = omega arith
+no_fault_is_0 (Module why) status is zero_is = omega arith
 no_fault_is_0 (Plan why) status is zero_is = omega arith
 no_fault_is_0 Read status is zero_is = omega arith
 no_fault_is_0 Write status is zero_is = omega arith
@@ -59,11 +59,13 @@ complained_fault row old middle new fault status keeps (is, (sent, complains)) =
 -- what every command keeps
 keeps_of : (row : Row) (old middle : Outside) (result : Result (Unit {0}) Fault) → Does row old middle result → Keeps row old middle result
 keeps_of (command.Plan file) old middle result does = does.keeps
+keeps_of (command.Show file) old middle result does = does.keeps
 
 -- no command ends with status 1
 not_bad_words : (old middle new : Outside) (result : Result (Unit {0}) Fault) (status : ℕ) → IfErr result (Fails old middle) → Ends middle new result status → status ≢ 1
 not_bad_words old middle new (Ok done) status failed ends one = let is = ends.0 in omega arith
 not_bad_words old middle new (Err Words) status failed ends one = failed
+not_bad_words old middle new (Err (Module why)) status failed ends one = let is = ends.0 in omega arith
 not_bad_words old middle new (Err (Plan why)) status failed ends one = let is = ends.0 in omega arith
 not_bad_words old middle new (Err Read) status failed ends one = let is = ends.0 in omega arith
 not_bad_words old middle new (Err Write) status failed ends one = let is = ends.0 in omega arith
@@ -81,6 +83,7 @@ bad_words (Some row) old new status runs = (
 command_read_fault : (old middle new : Outside) (result : Result (Unit {0}) Fault) (status : ℕ) → IfErr result (Fails old middle) → Ends middle new result status → status ≡ 5 → Rose old.read_faults new.read_faults
 command_read_fault old middle new (Ok done) status failed ends five = let is = ends.0 in absurd (omega arith)
 command_read_fault old middle new (Err Words) status failed ends five = absurd failed
+command_read_fault old middle new (Err (Module why)) status failed ends five = let is = ends.0 in absurd (omega arith)
 command_read_fault old middle new (Err (Plan why)) status failed ends five = let is = ends.0 in absurd (omega arith)
 command_read_fault old middle new (Err Read) status failed (is, (sent, complains)) five =
     subst (λ (n : ℕ). Rose old.read_faults n) (sym complains.read_faults) failed.0
@@ -98,6 +101,7 @@ read_fault (Some row) old new status runs five =
 command_write_fault : (old middle new : Outside) (result : Result (Unit {0}) Fault) (status : ℕ) → IfErr result (Fails old middle) → Ends middle new result status → status ≡ 6 → Rose old.write_faults new.write_faults
 command_write_fault old middle new (Ok done) status failed ends six = let is = ends.0 in absurd (omega arith)
 command_write_fault old middle new (Err Words) status failed ends six = absurd failed
+command_write_fault old middle new (Err (Module why)) status failed ends six = let is = ends.0 in absurd (omega arith)
 command_write_fault old middle new (Err (Plan why)) status failed ends six = let is = ends.0 in absurd (omega arith)
 command_write_fault old middle new (Err Read) status failed ends six = let is = ends.0 in absurd (omega arith)
 command_write_fault old middle new (Err Write) status failed (is, (sent, complains)) six =
@@ -122,6 +126,8 @@ left_by_complaint old middle new text sent leaves complains = record {
 command_leaves_all : (old middle new : Outside) (result : Result (Unit {0}) Fault) (status : ℕ) → IfErr result (Fails old middle) → Ends middle new result status → status ≢ 0 → status ≢ 6 → LeavesAll old new
 command_leaves_all old middle new (Ok done) status failed ends not_0 not_6 = absurd (not_0 ends.0)
 command_leaves_all old middle new (Err Words) status failed ends not_0 not_6 = absurd failed
+command_leaves_all old middle new (Err (Module why)) status failed (is, (sent, complains)) not_0 not_6 =
+    left_by_complaint old middle new _ sent failed complains
 command_leaves_all old middle new (Err (Plan why)) status failed (is, (sent, complains)) not_0 not_6 =
     left_by_complaint old middle new _ sent failed complains
 command_leaves_all old middle new (Err Read) status failed (is, (sent, complains)) not_0 not_6 =
@@ -192,57 +198,178 @@ not_both text change NoReach (fits, v, said, wished) (fits_too, w, said_too, non
 not_both text change Old (fits, v, said, wished) (fits_too, w, said_too, reaches, not_wished) =
     not_wished change (subst (λ (u : Wish). IsWished u change) (let same_wish : v ≡ w = cc in same_wish) wished)
 
--- the text that a file is told to hold is the text that a plan was read from
-says_of_told : (new : Outside) (file text : List ℕ) (said : Result Change PlanRefused) → ToldToHold new file text → SaysPlan new file said → PokeLine text said
-says_of_told new file text said told says =
-    let held = says.holds told.files told.told in
-    subst (λ (t : List ℕ). PokeLine t said) (let same_text : says.text ≡ text = cc (held, told.held) in same_text) says.says
+-- where the files are told, two texts that a file holds are one
+one_text : (outside : Outside) (file a b : List ℕ) → IsSome outside.files → Holds outside file a → Holds outside file b → a ≡ b
+one_text outside file a b told first second = go outside.files refl told
+  where
+    go : (files : Option Files) → outside.files ≡ files → IsSome files → a ≡ b
+    go None is some = absurd (cc)
+    go (Some files) is some =
+        let one = first files is in
+        let other = second files is in
+        cc
 
--- the statuses of `plan FILE`, by what it answered
-ends_of_plan : (file : List ℕ) (old middle new : Outside) (result : Result (Unit {0}) Fault) (status : ℕ) → DoesPlan file old middle result → Ends middle new result status → PlanEnds file old new status
-ends_of_plan file old middle new (Ok done) status does (is, same_outside) = record {
-  done = λ zero_is. (does.answers.0, subst (λ (o : Outside). SaysPlan o file (Ok does.answers.0)) (sym same_outside) does.answers.1, subst (λ (o : Outside). PrintsText old o (poke_text does.answers.0)) (sym same_outside) does.answers.2);
-  refused = λ three. absurd (omega arith);
+-- no refusal stands behind the last place of the order
+order_below : (why : ElfRefused) → order why < 13
+order_below (Short n) = lit< tt
+order_below (Magic n) = lit< tt
+order_below (Class n) = lit< tt
+order_below (Data n) = lit< tt
+order_below (Version n) = lit< tt
+order_below (Machine n) = lit< tt
+order_below (Kind n) = lit< tt
+order_below (Relocatable n) = lit< tt
+order_below (Headers n) = lit< tt
+order_below (Section n) = lit< tt
+order_below (Names n) = lit< tt
+order_below (Symbols n) = lit< tt
+
+-- no module file is both shown and refused
+not_both_shown : (file text : List ℕ) (why : ModuleRefused) → ModuleShows file (Ok text) → ModuleShows file (Err why) → ⊥
+not_both_shown file text LongModule shows long = let fits = shows.0 in omega arith
+not_both_shown file text (Elf why) shows refused =
+    shows.1.none why (order_below why) refused.1.holds
+not_both_shown file text (Table Jump n) shows refused = shows.2 refused.2
+not_both_shown file text (Table Call n) shows refused = shows.3 refused.3
+not_both_shown file text (Table Trace n) shows refused = shows.4 refused.4
+
+-- the files of a command, where they are told, don't both say a text and a refusal
+says_apart : (row : Row) (outside : Outside) (text : List ℕ) (why : Fault) → IsSome outside.files → Says row outside (Ok text) → Says row outside (Err why) → ⊥
+says_apart (command.Plan file) outside text (Plan why) told says refused =
+    not_both says.1.text says.0 why says.1.says
+    (subst (λ (t : List ℕ). PokeLine t (Err why)) (one_text outside file refused.text says.1.text told refused.holds says.1.holds) refused.says)
+says_apart (command.Plan file) outside text Words told says refused = refused
+says_apart (command.Plan file) outside text (Module why) told says refused = refused
+says_apart (command.Plan file) outside text Read told says refused = refused
+says_apart (command.Plan file) outside text Write told says refused = refused
+says_apart (command.Plan file) outside text Memory told says refused = refused
+says_apart (command.Show file) outside text (Module why) told says refused =
+    not_both_shown says.file text why says.says
+    (subst (λ (t : List ℕ). ModuleShows t (Err why)) (one_text outside file refused.file says.file told refused.holds says.holds) refused.says)
+says_apart (command.Show file) outside text Words told says refused = refused
+says_apart (command.Show file) outside text (Plan why) told says refused = refused
+says_apart (command.Show file) outside text Read told says refused = refused
+says_apart (command.Show file) outside text Write told says refused = refused
+says_apart (command.Show file) outside text Memory told says refused = refused
+
+-- the status of what a command's files are refused for
+refusal_status : Row → ℕ
+refusal_status (command.Plan file) = 3
+refusal_status (command.Show file) = 2
+
+-- each of its refusals has that status
+says_status : (row : Row) (outside : Outside) (why : Fault) → Says row outside (Err why) → status_of why ≡ refusal_status row
+unfolding refusal_status
+says_status (command.Plan file) outside (Plan why) refused = refl
+says_status (command.Plan file) outside Words refused = absurd refused
+says_status (command.Plan file) outside (Module why) refused = absurd refused
+says_status (command.Plan file) outside Read refused = absurd refused
+says_status (command.Plan file) outside Write refused = absurd refused
+says_status (command.Plan file) outside Memory refused = absurd refused
+says_status (command.Show file) outside (Module why) refused = refl
+says_status (command.Show file) outside Words refused = absurd refused
+says_status (command.Show file) outside (Plan why) refused = absurd refused
+says_status (command.Show file) outside Read refused = absurd refused
+says_status (command.Show file) outside Write refused = absurd refused
+says_status (command.Show file) outside Memory refused = absurd refused
+
+-- what the files said in the middle they say at the end
+says_later : (row : Row) (middle new : Outside) (said : Result (List ℕ) Fault) → Tells middle.files new.files → Says row middle said → Says row new said
+says_later (command.Plan file) middle new (Ok text) tells says =
+    (says.0, record { text = says.1.text; holds = λ files e. says.1.holds files (tells.told files e); says = says.1.says }, says.2)
+says_later (command.Plan file) middle new (Err (Plan why)) tells says =
+    record { text = says.text; holds = λ files e. says.holds files (tells.told files e); says = says.says }
+says_later (command.Plan file) middle new (Err Words) tells says = says
+says_later (command.Plan file) middle new (Err (Module why)) tells says = says
+says_later (command.Plan file) middle new (Err Read) tells says = says
+says_later (command.Plan file) middle new (Err Write) tells says = says
+says_later (command.Plan file) middle new (Err Memory) tells says = says
+says_later (command.Show file) middle new (Ok text) tells says =
+    record { file = says.file; holds = λ files e. says.holds files (tells.told files e); says = says.says }
+says_later (command.Show file) middle new (Err (Module why)) tells says =
+    record { file = says.file; holds = λ files e. says.holds files (tells.told files e); says = says.says }
+says_later (command.Show file) middle new (Err Words) tells says = says
+says_later (command.Show file) middle new (Err (Plan why)) tells says = says
+says_later (command.Show file) middle new (Err Read) tells says = says
+says_later (command.Show file) middle new (Err Write) tells says = says
+says_later (command.Show file) middle new (Err Memory) tells says = says
+
+-- where a command's files are refused, it ends with the status of that
+ends_refused : (row : Row) (old middle new : Outside) (fault : Fault) (status : ℕ) → Keeps row old middle (Err fault) → Says row middle (Err fault) → (status_of fault ≡ 2) ⊎ (status_of fault ≡ 3) → Ends middle new (Err fault) status → EndsSaying row old new status
+ends_refused row old middle new fault status keeps says which (is, (sent, complains)) =
+    let at_end : Says row new (Err fault) = says_later row middle new (Err fault) complains.files says in
+    record {
+      done = λ zero_is. absurd (no_fault_is_0 fault status is zero_is);
+      refused = λ either. (fault, at_end, complained_fault row old middle new fault status keeps (is, (sent, complains)));
+      cut = λ six. absurd (not_6 which is six);
+      refuses = λ why told refused. inl (is ∙ says_status row new fault at_end ∙ sym (says_status row new why refused));
+      complete = λ text told said no_read no_write. absurd (says_apart row new text fault told said at_end);
+    }
+  where
+    not_6 : (status_of fault ≡ 2) ⊎ (status_of fault ≡ 3) → status ≡ status_of fault → status ≡ 6 → ⊥
+    not_6 (inl two) is six = omega arith
+    not_6 (inr three) is six = omega arith
+
+-- the statuses of a command that prints what its files say, by what it answered
+ends_by_answer : (row : Row) (old middle new : Outside) (result : Result (Unit {0}) Fault) (status : ℕ) → Keeps row old middle result → PrintsSaid row old middle result → Ends middle new result status → EndsSaying row old new status
+ends_by_answer row old middle new (Ok done) status keeps prints (is, same_outside) = record {
+  done = λ zero_is. subst (λ (o : Outside). (text : List ℕ) × Says row o (Ok text) × PrintsText old o text) (sym same_outside) prints;
+  refused = λ either. absurd (not_refused either);
   cut = λ six. absurd (omega arith);
-  refuses = λ text why told refused. absurd (not_both text does.answers.0 why (says_of_told new file text (Ok does.answers.0) told (subst (λ (o : Outside). SaysPlan o file (Ok does.answers.0)) (sym same_outside) does.answers.1)) refused);
-  complete = λ text change told says no_read no_write. inl is;
+  refuses = λ why told refused. absurd (says_apart row new prints.0 why told (subst (λ (o : Outside). Says row o (Ok prints.0)) (sym same_outside) prints.1) refused);
+  complete = λ text told said no_read no_write. inl is;
 }
-ends_of_plan file old middle new (Err Words) status does ends = absurd does.keeps.failed
-ends_of_plan file old middle new (Err (Plan why)) status does (is, (sent, complains)) =
-    let says : SaysPlan new file (Err why) = says_later middle new file (Err why) complains.files does.answers in
+  where
+    not_refused : (status ≡ 2) ⊎ (status ≡ 3) → ⊥
+    not_refused (inl two) = omega arith
+    not_refused (inr three) = omega arith
+ends_by_answer row old middle new (Err Words) status keeps prints ends = absurd keeps.failed
+ends_by_answer row old middle new (Err (Module why)) status keeps prints ends =
+    ends_refused row old middle new (Module why) status keeps prints (inl refl) ends
+ends_by_answer row old middle new (Err (Plan why)) status keeps prints ends =
+    ends_refused row old middle new (Plan why) status keeps prints (inr refl) ends
+ends_by_answer row old middle new (Err Read) status keeps prints (is, (sent, complains)) = record {
+  done = λ zero_is. absurd (omega arith);
+  refused = λ either. absurd (not_refused either);
+  cut = λ six. absurd (omega arith);
+  refuses = λ why told refused. inr (inl is);
+  complete = λ text told says no_read no_write. absurd (no_read (subst (λ (n : ℕ). Rose old.read_faults n) (sym complains.read_faults) keeps.failed.0));
+}
+  where
+    not_refused : (status ≡ 2) ⊎ (status ≡ 3) → ⊥
+    not_refused (inl two) = omega arith
+    not_refused (inr three) = omega arith
+ends_by_answer row old middle new (Err Write) status keeps prints (is, (sent, complains)) =
+    let says : Says row new (Ok prints.0) = says_later row middle new (Ok prints.0) complains.files prints.1 in
     record {
       done = λ zero_is. absurd (omega arith);
-      refused = λ three. (why, says, complained_fault (command.Plan file) old middle new (Plan why) status does.keeps (is, (sent, complains)));
-      cut = λ six. absurd (omega arith);
-      refuses = λ text reason told refused. inl is;
-      complete = λ text change told change_said no_read no_write. absurd (not_both text change why change_said (says_of_told new file text (Err why) told says));
+      refused = λ either. absurd (not_refused either);
+      cut = λ six. (prints.0, says, record { part = prints.2.part; front = prints.2.front; printed = Tells-trans _ middle.printed new.printed prints.2.printed complains.printed });
+      refuses = λ why told refused. absurd (says_apart row new prints.0 why told says refused);
+      complete = λ text told said no_read no_write. absurd (no_write (subst (λ (n : ℕ). Rose old.write_faults n) (sym complains.write_faults) keeps.failed));
     }
-ends_of_plan file old middle new (Err Read) status does (is, (sent, complains)) = record {
+  where
+    not_refused : (status ≡ 2) ⊎ (status ≡ 3) → ⊥
+    not_refused (inl two) = omega arith
+    not_refused (inr three) = omega arith
+ends_by_answer row old middle new (Err Memory) status keeps prints (is, (sent, complains)) = record {
   done = λ zero_is. absurd (omega arith);
-  refused = λ three. absurd (omega arith);
+  refused = λ either. absurd (not_refused either);
   cut = λ six. absurd (omega arith);
-  refuses = λ text why told refused. inr (inl is);
-  complete = λ text change told says no_read no_write. absurd (no_read (subst (λ (n : ℕ). Rose old.read_faults n) (sym complains.read_faults) does.keeps.failed.0));
+  refuses = λ why told refused. inr (inr is);
+  complete = λ text told says no_read no_write. inr is;
 }
-ends_of_plan file old middle new (Err Write) status does (is, (sent, complains)) =
-    let change = does.answers.0 in
-    let says : SaysPlan new file (Ok change) = says_later middle new file (Ok change) complains.files does.answers.1 in
-    record {
-      done = λ zero_is. absurd (omega arith);
-      refused = λ three. absurd (omega arith);
-      cut = λ six. (change, says, record { part = does.answers.2.part; front = does.answers.2.front; printed = Tells-trans _ middle.printed new.printed does.answers.2.printed complains.printed });
-      refuses = λ text why told refused. absurd (not_both text change why (says_of_told new file text (Ok change) told says) refused);
-      complete = λ text wanted told wanted_said no_read no_write. absurd (no_write (subst (λ (n : ℕ). Rose old.write_faults n) (sym complains.write_faults) does.keeps.failed));
-    }
-ends_of_plan file old middle new (Err Memory) status does (is, (sent, complains)) = record {
-  done = λ zero_is. absurd (omega arith);
-  refused = λ three. absurd (omega arith);
-  cut = λ six. absurd (omega arith);
-  refuses = λ text why told refused. inr (inr is);
-  complete = λ text change told says no_read no_write. inr is;
-}
+  where
+    not_refused : (status ≡ 2) ⊎ (status ≡ 3) → ⊥
+    not_refused (inl two) = omega arith
+    not_refused (inr three) = omega arith
 
--- the statuses of `plan FILE`
-pub plan_ends : (file : List ℕ) (old new : Outside) (status : ℕ) → RunsRow (Some (command.Plan file)) old new status → PlanEnds file old new status
-plan_ends file old new status runs =
-    ends_of_plan file old runs.middle new runs.result status runs.does runs.ends
+-- what a command prints of what its files say
+prints_of : (row : Row) (old middle : Outside) (result : Result (Unit {0}) Fault) → Does row old middle result → PrintsSaid row old middle result
+prints_of (command.Plan file) old middle result does = does.prints
+prints_of (command.Show file) old middle result does = does.prints
+
+-- the statuses of a command
+pub ends_saying : (row : Row) (old new : Outside) (status : ℕ) → RunsRow (Some row) old new status → EndsSaying row old new status
+ends_saying row old new status runs =
+    ends_by_answer row old runs.middle new runs.result status (keeps_of row old runs.middle runs.result runs.does) (prints_of row old runs.middle runs.result runs.does) runs.ends

@@ -1,4 +1,5 @@
 pub mod Endings
 pub mod PlanLines
 pub mod Plans
-pub mod PlanRuns
+pub mod FileRuns
+pub mod TableLines

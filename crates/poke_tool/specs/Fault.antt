@@ -1,16 +1,64 @@
 -- How a command that failed ends: its status and its complaint.
 use Rattle.std.specs.Prelude.{ℕ, List, [], ◌∷◌, ◌++◌, codes}
+use Rattle.poke_base.specs.Number.{hexadecimal}
+use Rattle.elf_module.specs.declared.refused.ElfRefused.{ElfRefused}
+use Rattle.elf_module.specs.declared.refused.ElfRefused.TheVariants.{Short, Magic, Class, Data, Version, Machine, Kind, Relocatable, Headers, Section, Names, Symbols}
+use Rattle.site_tables.specs.declared.entries.TableKind.{TableKind}
+use Rattle.site_tables.specs.declared.entries.TableKind.TheVariants.{Jump, Call, Trace}
 use Rattle.poke_tool.specs.declared.plan_line.PlanRefused.{PlanRefused}
 use Rattle.poke_tool.specs.declared.plan_line.PlanRefused.TheVariants.{TooLong, Line, NoReach, Old}
+use Rattle.poke_tool.specs.declared.module_fault.ModuleRefused.{ModuleRefused}
+use Rattle.poke_tool.specs.declared.module_fault.ModuleRefused.TheVariants.{TooLong as LongModule, Elf, Table}
 use Rattle.poke_tool.specs.declared.fault.Fault.{Fault}
-use Rattle.poke_tool.specs.declared.fault.Fault.TheVariants.{Words, Plan, Read, Write, Memory}
+use Rattle.poke_tool.specs.declared.fault.Fault.TheVariants.{Words, Module, Plan, Read, Write, Memory}
 
 abbrev pub status_of : Fault → ℕ
 status_of Words = 1
+status_of (Module why) = 2
 status_of (Plan why) = 3
 status_of Read = 5
 status_of Write = 6
 status_of Memory = 7
+
+-- the name of what is wrong with a file, and the number that says where
+abbrev pub elf_name : ElfRefused → List ℕ
+elf_name (Short n) = codes "Short"
+elf_name (Magic n) = codes "Magic"
+elf_name (Class n) = codes "Class"
+elf_name (Data n) = codes "Data"
+elf_name (Version n) = codes "Version"
+elf_name (Machine n) = codes "Machine"
+elf_name (Kind n) = codes "Kind"
+elf_name (Relocatable n) = codes "Relocatable"
+elf_name (Headers n) = codes "Headers"
+elf_name (Section n) = codes "Section"
+elf_name (Names n) = codes "Names"
+elf_name (Symbols n) = codes "Symbols"
+
+abbrev pub elf_number : ElfRefused → ℕ
+elf_number (Short n) = n
+elf_number (Magic n) = n
+elf_number (Class n) = n
+elf_number (Data n) = n
+elf_number (Version n) = n
+elf_number (Machine n) = n
+elf_number (Kind n) = n
+elf_number (Relocatable n) = n
+elf_number (Headers n) = n
+elf_number (Section n) = n
+elf_number (Names n) = n
+elf_number (Symbols n) = n
+
+abbrev pub kind_name : TableKind → List ℕ
+kind_name Jump = codes "jump"
+kind_name Call = codes "call"
+kind_name Trace = codes "trace"
+
+-- what is wrong with a module: a name and its numbers
+abbrev pub module_reason : ModuleRefused → List ℕ
+module_reason LongModule = codes "TooLong"
+module_reason (Elf why) = elf_name why ++ codes " " ++ hexadecimal (elf_number why)
+module_reason (Table kind n) = codes "Table " ++ kind_name kind ++ codes " " ++ hexadecimal n
 
 abbrev pub name_of : PlanRefused → List ℕ
 name_of TooLong = codes "TooLong"
@@ -20,6 +68,7 @@ name_of Old = codes "Old"
 
 abbrev pub reason_of : Fault → List ℕ
 reason_of Words = codes "bad words"
+reason_of (Module why) = codes "module: " ++ module_reason why
 reason_of (Plan why) = codes "plan: " ++ name_of why
 reason_of Read = codes "read failed"
 reason_of Write = codes "write failed"

@@ -1,7 +1,9 @@
 pub mod PlanLine
 pub mod Plan
+pub mod Module
 pub mod Command
 pub mod Fault
 pub mod Runs
 pub mod Endings
 pub mod SiteBytes
+pub mod Tables

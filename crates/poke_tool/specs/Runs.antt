@@ -5,11 +5,12 @@ use Rattle.poke_base.specs.Host.{Outside, Rose, Tells, with_more, Complains}
 use Rattle.poke_base.specs.Text.{IsFront}
 use Rattle.insn_forms.specs.declared.forms.Change.{Change}
 use Rattle.poke_tool.specs.declared.fault.Fault.{Fault}
-use Rattle.poke_tool.specs.declared.fault.Fault.TheVariants.{Words, Plan, Read, Write, Memory}
+use Rattle.poke_tool.specs.declared.fault.Fault.TheVariants.{Words, Module, Plan, Read, Write, Memory}
 use Rattle.poke_tool.specs.Command as command
 use Rattle.poke_tool.specs.Command.{Row, row_of, file_words}
 use Rattle.poke_tool.specs.Fault.{status_of, complaint_of}
 use Rattle.poke_tool.specs.Plan.{SaysPlan, poke_text}
+use Rattle.poke_tool.specs.Module.{SaysShow}
 
 -- a text was printed
 abbrev pub PrintsText : Outside → Outside → List ℕ → Type 0
@@ -29,6 +30,7 @@ pub record LeavesAll (old new : Outside) : Type 0 where
 -- why a command failed; after every fault but a failed write all is as before
 abbrev pub Fails : Outside → Outside → Fault → Type 0
 Fails old new Words = ⊥
+Fails old new (Module why) = LeavesAll old new
 Fails old new (Plan why) = LeavesAll old new
 Fails old new Read = Rose old.read_faults new.read_faults × LeavesAll old new
 Fails old new Write = Rose old.write_faults new.write_faults
@@ -51,28 +53,46 @@ pub record MakesNothing (old new : Outside) : Type 0 where
   pub files : Tells old.files new.files
   pub making : new.making ≡ old.making
 
--- what `plan` says of its file where it fails
-abbrev pub FailsPlan : List ℕ → Outside → Outside → Fault → Type 0
-FailsPlan file old new (Plan why) = SaysPlan new file (Err why)
-FailsPlan file old new Write = (change : Change) × SaysPlan new file (Ok change) × PrintsFront old new (poke_text change)
-FailsPlan file old new _ = ⊤
+-- what the file of `plan` says of what is printed: the poke of its change, or why it is refused
+abbrev pub PlanSays : List ℕ → Outside → Result (List ℕ) Fault → Type 0
+PlanSays file outside (Ok text) = (change : Change) × SaysPlan outside file (Ok change) × (text ≡ poke_text change)
+PlanSays file outside (Err (Plan why)) = SaysPlan outside file (Err why)
+PlanSays file outside (Err _) = ⊥
 
--- what `plan` answers: the change that its file says is printed as the items of its poke
-abbrev pub AnswersPlan : List ℕ → Outside → Outside → Result (Unit {0}) Fault → Type 0
-AnswersPlan file old new (Ok done) =
-    (change : Change) × SaysPlan new file (Ok change) × PrintsText old new (poke_text change)
-AnswersPlan file old new (Err fault) = FailsPlan file old new fault
+-- what the file of `show` says of what is printed: the entries of its tables, or why it is refused
+abbrev pub ShowSays : List ℕ → Outside → Result (List ℕ) Fault → Type 0
+ShowSays file outside (Ok text) = SaysShow outside file (Ok text)
+ShowSays file outside (Err (Module why)) = SaysShow outside file (Err why)
+ShowSays file outside (Err _) = ⊥
 
--- what `plan` does; it always asks for its file
-pub record DoesPlan (file : List ℕ) (old new : Outside) (result : Result (Unit {0}) Fault) : Type 0 where
-  pub keeps : Keeps (command.Plan file) old new result
+-- what the files of a command say of what is printed
+abbrev pub Says : Row → Outside → Result (List ℕ) Fault → Type 0
+Says (command.Plan file) outside said = PlanSays file outside said
+Says (command.Show file) outside said = ShowSays file outside said
+
+-- what a command that failed has printed of what its files say
+abbrev pub FailsSaying : Row → Outside → Outside → Fault → Type 0
+FailsSaying row old new (Module why) = Says row new (Err (Module why))
+FailsSaying row old new (Plan why) = Says row new (Err (Plan why))
+FailsSaying row old new Write = (text : List ℕ) × Says row new (Ok text) × PrintsFront old new text
+FailsSaying row old new _ = ⊤
+
+-- what a command answers that prints what its files say
+abbrev pub PrintsSaid : Row → Outside → Outside → Result (Unit {0}) Fault → Type 0
+PrintsSaid row old new (Ok done) = (text : List ℕ) × Says row new (Ok text) × PrintsText old new text
+PrintsSaid row old new (Err fault) = FailsSaying row old new fault
+
+-- what a command does that reads one file, for which it always asks, and prints what that says
+pub record ShowsFile (row : Row) (old new : Outside) (result : Result (Unit {0}) Fault) : Type 0 where
+  pub keeps : Keeps row old new result
   pub makes_nothing : MakesNothing old new
-  pub asks : Tells (with_more old.asked (file_words (command.Plan file))) new.asked
-  pub answers : AnswersPlan file old new result
+  pub asks : Tells (with_more old.asked (file_words row)) new.asked
+  pub prints : PrintsSaid row old new result
 
 -- what a command does before a complaint
 abbrev pub Does : Row → Outside → Outside → Result (Unit {0}) Fault → Type 0
-Does (command.Plan file) old new result = DoesPlan file old new result
+Does (command.Plan file) old new result = ShowsFile (command.Plan file) old new result
+Does (command.Show file) old new result = ShowsFile (command.Show file) old new result
 
 -- how the program ends: a fault is complained, and gives the status whether the complaint went out or not
 abbrev pub Ends : Outside → Outside → Result (Unit {0}) Fault → ℕ → Type 0

@@ -1,13 +1,21 @@
 //! Why a command failed, with the status and the complaint of each reason.
-ghost use Rattle.std.specs.Prelude.{◌≡◌};
+ghost use Rattle.std.specs.Prelude.{◌≡◌, ◌≤◌, ◌+◌, ◌++◌, length};
+ghost use Rattle.arrayvec.specs.ArrayVec.{array_vec_len};
+ghost use Rattle.poke_tool.specs.Fault.{elf_name, elf_number, kind_name, module_reason, name_of};
 
+use crate::module_fault::ModuleRefused;
 use crate::plan_line::PlanRefused;
+use elf_module::ElfRefused;
+use poke_base::{Line, put_hex, put_text};
+use site_tables::TableKind;
 
 /// Why a command failed.
 #[derive(Clone, Copy, Debug, PartialEq, Eq)]
 pub enum Fault {
     /// The words are no command.
     Words,
+    /// The module file was refused.
+    Module(ModuleRefused),
     /// The plan file was refused.
     Plan(PlanRefused),
     /// A file wasn't read.
@@ -19,7 +27,7 @@ pub enum Fault {
 }
 
 impl Fault {
-    ghost use Rattle.poke_tool.specs.Fault.{status_of, complaint_of};
+    ghost use Rattle.poke_tool.specs.Fault.{status_of, complaint_of, reason_of};
 
     /// The status with which the program ends.
     pub fn status(&self) -> u8
@@ -27,6 +35,7 @@ impl Fault {
     {
         match self {
             Fault::Words => 1,
+            Fault::Module(_) => 2,
             Fault::Plan(_) => 3,
             Fault::Read => 5,
             Fault::Write => 6,
@@ -35,18 +44,126 @@ impl Fault {
     }
 
     /// The line that is complained.
-    pub fn complaint(&self) -> &'static [u8]
-        ensures { result.now ≡ complaint_of self.now }
+    #[tactic(auto, using(poke_base::proofs::Numbers::line_room))]
+    pub fn complaint(&self) -> Line
+        ensures { result.items ≡ complaint_of self.now }
+    {
+        let mut line = Line::new();
+        put_text(&mut line, b"textpoke: ");
+        self.put_reason(&mut line);
+        put_text(&mut line, b"\n");
+        line
+    }
+
+    /// Adds the reason to the line.
+    #[tactic(auto, using(poke_base::proofs::Numbers::line_room))]
+    fn put_reason(&self, line: &mut Line)
+        requires { array_vec_len line.old ≤ 10 }
+        ensures reason { line.new.items ≡ line.old.items ++ reason_of self.now }
+        ensures short { length (reason_of self.now) ≤ 60 }
     {
         match self {
-            Fault::Words => b"textpoke: bad words\n",
-            Fault::Plan(PlanRefused::TooLong) => b"textpoke: plan: TooLong\n",
-            Fault::Plan(PlanRefused::Line) => b"textpoke: plan: Line\n",
-            Fault::Plan(PlanRefused::NoReach) => b"textpoke: plan: NoReach\n",
-            Fault::Plan(PlanRefused::Old) => b"textpoke: plan: Old\n",
-            Fault::Read => b"textpoke: read failed\n",
-            Fault::Write => b"textpoke: write failed\n",
-            Fault::Memory => b"textpoke: no memory\n",
+            Fault::Words => put_text(line, b"bad words"),
+            Fault::Module(why) => {
+                put_text(line, b"module: ");
+                put_module(line, why);
+            }
+            Fault::Plan(why) => {
+                put_text(line, b"plan: ");
+                put_text(line, plan_name(why));
+            }
+            Fault::Read => put_text(line, b"read failed"),
+            Fault::Write => put_text(line, b"write failed"),
+            Fault::Memory => put_text(line, b"no memory"),
         }
+    }
+}
+
+/// Adds what is wrong with a module, a name and its numbers, to the line.
+#[tactic(auto, using(poke_base::proofs::Numbers::line_room))]
+fn put_module(line: &mut Line, why: &ModuleRefused)
+    requires { array_vec_len line.old ≤ 18 }
+    ensures reason { line.new.items ≡ line.old.items ++ module_reason why.now }
+    ensures short { length (module_reason why.now) ≤ 40 }
+{
+    match why {
+        ModuleRefused::TooLong => put_text(line, b"TooLong"),
+        ModuleRefused::Elf(why) => {
+            put_text(line, elf_name(why));
+            put_text(line, b" ");
+            put_hex(line, elf_number(why));
+        }
+        ModuleRefused::Table(kind, size) => {
+            put_text(line, b"Table ");
+            put_text(line, kind_name(*kind));
+            put_text(line, b" ");
+            put_hex(line, *size);
+        }
+    }
+}
+
+/// The name of a plan's refusal.
+fn plan_name(why: &PlanRefused) -> &'static [u8]
+    ensures name { result.now ≡ name_of why.now }
+    ensures short { length result.now ≤ 7 }
+{
+    match why {
+        PlanRefused::TooLong => b"TooLong",
+        PlanRefused::Line => b"Line",
+        PlanRefused::NoReach => b"NoReach",
+        PlanRefused::Old => b"Old",
+    }
+}
+
+/// The word for a table.
+fn kind_name(kind: TableKind) -> &'static [u8]
+    ensures name { result.now ≡ kind_name kind }
+    ensures short { length result.now ≤ 5 }
+{
+    match kind {
+        TableKind::Jump => b"jump",
+        TableKind::Call => b"call",
+        TableKind::Trace => b"trace",
+    }
+}
+
+/// The name of what is wrong with an ELF file.
+fn elf_name(why: &ElfRefused) -> &'static [u8]
+    ensures name { result.now ≡ elf_name why.now }
+    ensures short { length result.now ≤ 11 }
+{
+    match why {
+        ElfRefused::Short(_) => b"Short",
+        ElfRefused::Magic(_) => b"Magic",
+        ElfRefused::Class(_) => b"Class",
+        ElfRefused::Data(_) => b"Data",
+        ElfRefused::Version(_) => b"Version",
+        ElfRefused::Machine(_) => b"Machine",
+        ElfRefused::Kind(_) => b"Kind",
+        ElfRefused::Relocatable(_) => b"Relocatable",
+        ElfRefused::Headers(_) => b"Headers",
+        ElfRefused::Section(_) => b"Section",
+        ElfRefused::Names(_) => b"Names",
+        ElfRefused::Symbols(_) => b"Symbols",
+    }
+}
+
+/// The number that says where it is wrong.
+fn elf_number(why: &ElfRefused) -> u64
+    ensures { result ≡ elf_number why.now }
+{
+    match *why {
+        ElfRefused::Short(n)
+        | ElfRefused::Magic(n)
+        | ElfRefused::Class(n)
+        | ElfRefused::Data(n)
+        | ElfRefused::Version(n)
+        | ElfRefused::Machine(n)
+        | ElfRefused::Kind(n)
+        | ElfRefused::Relocatable(n)
+        | ElfRefused::Headers(n)
+        | ElfRefused::Section(n)
+        | ElfRefused::Names(n)
+        | ElfRefused::Symbols(n) => n,
     }
 }

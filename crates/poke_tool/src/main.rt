@@ -2,9 +2,16 @@
 #![tactic(auto)]
 
 mod command;
+mod entry_lines;
 mod fault;
+mod module_fault;
 mod plan;
 mod plan_line;
+mod print_table;
+mod show;
+#[cfg(test)]
+mod show_tests;
+mod tables;
 #[cfg(test)]
 mod tests;
 mod top;
@@ -24,7 +31,7 @@ fn main(rt: HostRuntime) -> ExitCode {
     let status = match words {
         Ok(words) => textpoke(rt.alloc(), &words, &mut host),
         Err(fault) => {
-            let _ = host.complain(fault.complaint());
+            let _ = host.complain(&fault.complaint());
             fault.status()
         }
     };

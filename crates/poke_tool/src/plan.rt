@@ -7,7 +7,8 @@ ghost use Rattle.poke_batch.specs.Poke.{items};
 ghost use Rattle.poke_batch.specs.Poke.Item.{Puts, Syncs};
 ghost use Rattle.poke_tool.specs.PlanLine.{IsPlan};
 ghost use Rattle.poke_tool.specs.Plan.{item_line, to_print};
-ghost use Rattle.poke_tool.specs.Runs.{DoesPlan};
+ghost use Rattle.poke_tool.specs.Command.{Plan as PlanRow};
+ghost use Rattle.poke_tool.specs.Runs.{ShowsFile};
 
 use crate::fault::Fault;
 use crate::plan_line::{Plan, PlanRefused, read_plan};
@@ -25,7 +26,7 @@ const PLAN_LIMIT: u64 = 256;
 /// Why the file wasn't read or was refused, in which case nothing was printed; a failed write, after
 /// which a front of the text was printed; want of memory, which comes before anything is printed.
 pub fn plan<H: Host>(alloc: Global, file: &str, host: &mut H) -> Result<(), Fault>
-    ensures { DoesPlan file.now (H.outside host.old) (H.outside host.new) result }
+    ensures { ShowsFile (PlanRow file.now) (H.outside host.old) (H.outside host.new) result }
 {
     let mut text = Vec::new(alloc);
     match host.read_file(file, PLAN_LIMIT, &mut text) {

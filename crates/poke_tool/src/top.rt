@@ -1,20 +1,21 @@
 //! The whole program as one call.
 ghost use Rattle.std.specs.Prelude.{◌≡◌, ◌≢◌, ◌↔◌, ℕ, List, None, Some};
 ghost use Rattle.poke_base.specs.Host.{Rose};
-ghost use Rattle.poke_tool.specs.Command.{Plan as PlanRow, row, row_of, words_of};
+ghost use Rattle.poke_tool.specs.Command.{Row, row, row_of, words_of};
 ghost use Rattle.poke_tool.specs.Runs.{DoesRow, LeavesAll, Runs};
-ghost use Rattle.poke_tool.specs.Endings.{AsksInOrder, EndsAloud, PlanEnds};
+ghost use Rattle.poke_tool.specs.Endings.{AsksInOrder, EndsAloud, EndsSaying};
 
 use crate::command::Command;
 use crate::fault::Fault;
 use crate::plan::plan;
+use crate::show::show;
 use poke_base::Host;
 use std::alloc::Global;
 
 /// Does the command that the words are, and answers the status with which the program ends. The
 /// words don't have the program's name.
 ///
-/// 0: done. 1: the words are no command. 3: the plan file was refused. 5: a file wasn't read.
+/// 0: done. 1: the words are no command. 2: the module was refused. 3: the plan file was refused. 5: a file wasn't read.
 /// 6: a write failed. 7: want of memory, which comes before anything is printed. At every status but
 /// 0 the reason is complained in one line; a complaint that fails leaves the status as it is.
 pub fn textpoke<H: Host>(alloc: Global, words: &[String], host: &mut H) -> u8
@@ -27,13 +28,13 @@ pub fn textpoke<H: Host>(alloc: Global, words: &[String], host: &mut H) -> u8
     ensures asks_in_order { AsksInOrder (row_of (words_of words.now)) (H.outside host.old) (H.outside host.new) result }
     ensures ends_aloud { EndsAloud (H.outside host.old) (H.outside host.new) result }
 
-    ensures plan { (file : List ℕ) → row_of (words_of words.now) ≡ Some (PlanRow file) → PlanEnds file (H.outside host.old) (H.outside host.new) result }
+    ensures says { (row : Row) → row_of (words_of words.now) ≡ Some row → EndsSaying row (H.outside host.old) (H.outside host.new) result }
 {
     match do_command(alloc, words, host) {
         Ok(()) => 0,
         Err(fault) => {
             // The status says why, whether the complaint goes out or not.
-            let _ = host.complain(fault.complaint());
+            let _ = host.complain(&fault.complaint());
             fault.status()
         }
     }
@@ -46,5 +47,6 @@ fn do_command<H: Host>(alloc: Global, words: &[String], host: &mut H) -> Result<
     match Command::read(words) {
         None => Err(Fault::Words),
         Some(Command::Plan { file }) => plan(alloc, file, host),
+        Some(Command::Show { module }) => show(alloc, module, host),
     }
 }

@@ -1,9 +1,9 @@
-use Rattle.std.proofs.Common.{List, ℕ, Option, Err, subst}
+use Rattle.std.proofs.Common.{◌∙◌, List, ℕ, Option, Err, subst, Ok, refl}
 use Rattle.poke_base.specs.declared.host.WriteFail.{WriteFail}
 use Rattle.poke_base.specs.Host.{Complains}
 use Rattle.poke_tool.specs.Command.{Row, row_of, words_of}
 use Rattle.poke_tool.specs.Runs.{RunsRow}
-use Rattle.poke_tool.proofs.Endings.{asks_in_order, bad_words, ends_aloud, leaves_all, plan_ends, read_fault, write_fault}
+use Rattle.poke_tool.proofs.Endings.{asks_in_order, bad_words, ends_aloud, leaves_all, ends_saying, read_fault, write_fault}
 use Rattle.poke_tool.proofs.top.textpoke.Goals as goal
 
 -- the program ends with a fault that was complained
@@ -16,7 +16,7 @@ returns-in-Err-clause-runs g c = record {
     c.status.ensures,
     (
       c.complain.result,
-      subst (λ (text : List ℕ). Complains {T = Unit {0}} {E = WriteFail} (g.H.Host.outside c.do_command.new.host) (g.H.Host.outside c.complain.new.self) text c.complain.result) c.complaint.ensures c.complain.ensures,
+      subst (λ (text : List ℕ). Complains {T = Unit {0}} {E = WriteFail} (g.H.Host.outside c.do_command.new.host) (g.H.Host.outside c.complain.new.self) text c.complain.result) (c.deref.ensures.0 ∙ c.complaint.ensures) c.complain.ensures,
     ),
   );
 }
@@ -25,9 +25,9 @@ pub returns-in-Err-clause-ends_aloud : goal.returns-in-Err-clause-ends_aloud
 returns-in-Err-clause-ends_aloud g c =
     ends_aloud (row_of (words_of c.args.words.now)) _ _ _ (returns-in-Err-clause-runs g c)
 
-pub returns-in-Err-clause-plan : goal.returns-in-Err-clause-plan
-returns-in-Err-clause-plan g c file is =
-    plan_ends file _ _ _
+pub returns-in-Err-clause-says : goal.returns-in-Err-clause-says
+returns-in-Err-clause-says g c row is =
+    ends_saying row _ _ _
     (subst (λ (r : Option Row). RunsRow r (g.H.Host.outside c.args.host.now) (g.H.Host.outside c.complain.new.self) c.status.result) is (returns-in-Err-clause-runs g c))
 
 pub returns-in-Err-clause-bad_words : goal.returns-in-Err-clause-bad_words
@@ -44,3 +44,9 @@ returns-in-Err-clause-leaves_all g c = leaves_all (row_of (words_of c.args.words
 
 pub returns-in-Err-clause-asks_in_order : goal.returns-in-Err-clause-asks_in_order
 returns-in-Err-clause-asks_in_order g c = asks_in_order (row_of (words_of c.args.words.now)) _ _ _ (returns-in-Err-clause-runs g c)
+
+pub returns-in-Ok-clause-says : goal.returns-in-Ok-clause-says
+returns-in-Ok-clause-says g c row is =
+    ends_saying row _ _ _
+    (subst (λ (r : Option Row). RunsRow r (g.H.Host.outside c.args.host.now) (g.H.Host.outside c.do_command.new.host) 0) is
+    (record { middle = g.H.Host.outside c.do_command.new.host; result = Ok c.in-Ok.field-0; does = c.in-Ok.ensures; ends = (refl, refl) }))

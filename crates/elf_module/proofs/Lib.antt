@@ -1,0 +1,4 @@
+pub mod Finding
+pub mod NamesEnd
+pub mod Rows
+pub mod SymbolsFrom

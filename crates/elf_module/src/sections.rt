@@ -1,0 +1,168 @@
+//! The sections of a file, each of which stands in it.
+ghost use Rattle.std.specs.Prelude.{◌≡◌, ◌<◌, ◌≤◌, true, option_map, find, length, slice_get, IfOk, IfSome, MatchOption};
+ghost use Rattle.std.specs.Str.{bytes_eq};
+ghost use Rattle.elf_module.specs.Elf.{byte_at, content, covers, e_shnum, e_shstrndx, loaded, section_at, section_of, sections_of, symtab_of};
+ghost use Rattle.elf_module.specs.Refusals.{AreInside, IsStringTable, Passes, Tries};
+
+use crate::headers::{Headers, SHT_NOBITS, SHT_NULL, SHT_STRTAB, SHT_SYMTAB};
+use crate::names::{is_name_at, name_at, names_end};
+use crate::records::Section;
+use crate::refused::ElfRefused;
+
+/// The sections of a file, none of which reaches past it.
+#[derive(Clone, Copy)]
+pub(crate) struct Sections<'a> {
+    /// Their headers.
+    pub(crate) headers: Headers<'a>,
+    /// The string table with their names.
+    pub(crate) names: &'a [u8],
+    ghost inside: { AreInside headers.bytes.now },
+    ghost names_is: { names.now ≡ content headers.bytes.now (e_shstrndx headers.bytes.now) },
+}
+
+/// Looks for a section that reaches past the file.
+pub(crate) fn inside<'a>(headers: Headers<'a>) -> Result<Sections<'a>, ElfRefused>
+    requires { Passes headers.bytes.now 10 }
+    ensures tried { Tries headers.entry.bytes.now 11 result }
+    ensures same { IfOk result (λ sections. sections.headers ≡ headers.entry) }
+{
+    let len = headers.bytes.len() as u64;
+    for i in 0..headers.count {
+        if headers.header(i).reaches_past(len) {
+            return Err(ElfRefused::Section(u64::from(i)));
+        }
+    }
+    let names = headers.header(headers.names).content(headers.bytes);
+    Ok(Sections { headers, names })
+}
+
+/// Looks for a string table of names, and for each section's name in it.
+pub(crate) fn named(sections: &Sections<'_>) -> Result<(), ElfRefused>
+    requires { Passes sections.now.headers.bytes.now 11 }
+    ensures { Tries sections.now.headers.bytes.now 12 result }
+{
+    let headers = &sections.headers;
+    if headers.header(headers.names).kind != SHT_STRTAB {
+        return Err(ElfRefused::Names(u64::from(headers.names)));
+    }
+    let end = names_end(sections.names) as u64;
+    for i in 0..headers.count {
+        if u64::from(headers.header(i).name) >= end {
+            return Err(ElfRefused::Names(u64::from(i)));
+        }
+    }
+    Ok(())
+}
+
+impl<'a> Sections<'a> {
+    /// The section with an index below the count.
+    pub(crate) fn at(&self, index: u16) -> Section<'a>
+        requires { index < self.now.headers.count }
+        ensures at { section_of result ≡ section_at self.now.headers.bytes.now index }
+        ensures within { length result.content.now ≤ length self.now.headers.bytes.now }
+    {
+        let header = self.headers.header(index);
+        Section {
+            index,
+            name: name_at(self.names, header.name as usize),
+            kind: header.kind,
+            flags: header.flags,
+            addr: header.addr,
+            size: header.size,
+            link: header.link,
+            content: header.content(self.headers.bytes),
+        }
+    }
+
+    /// The section with an index.
+    pub(crate) fn get(&self, index: u16) -> Option<Section<'a>>
+        ensures found { option_map section_of result ≡ slice_get (sections_of self.now.headers.bytes.now) index }
+        ensures within { IfSome result (λ section. length section.content.now ≤ length self.now.headers.bytes.now) }
+    {
+        if index < self.headers.count {
+            Some(self.at(index))
+        } else {
+            None
+        }
+    }
+
+    /// The bytes of the string table with an index.
+    pub(crate) fn string_table(&self, index: u32) -> Option<&'a [u8]>
+        ensures { MatchOption result (IsStringTable self.now.headers.bytes.now index → ⊥) (λ table. IsStringTable self.now.headers.bytes.now index × (table.now ≡ content self.now.headers.bytes.now index)) }
+    {
+        if index >= u32::from(self.headers.count) {
+            return None;
+        }
+        let header = self.headers.header(index as u16);
+        if header.kind != SHT_STRTAB {
+            return None;
+        }
+        Some(header.content(self.headers.bytes))
+    }
+
+    /// The first section of symbols.
+    pub(crate) fn symtab(&self) -> Option<Section<'a>>
+        ensures found { option_map section_of result ≡ symtab_of self.now.headers.bytes.now }
+        ensures within { IfSome result (λ symtab. length symtab.content.now ≤ length self.now.headers.bytes.now) }
+    {
+        for i in 0..self.headers.count {
+            if self.headers.header(i).kind == SHT_SYMTAB {
+                return Some(self.at(i));
+            }
+        }
+        None
+    }
+
+    /// The first section of a name.
+    pub(crate) fn find(&self, name: &[u8]) -> Option<Section<'a>>
+        ensures found { option_map section_of result ≡ find (λ s. bytes_eq s.name name.now) (sections_of self.now.headers.bytes.now) }
+        ensures within { IfSome result (λ section. length section.content.now ≤ length self.now.headers.bytes.now) }
+    {
+        for i in 0..self.headers.count {
+            if is_name_at(self.names, self.headers.header(i).name as usize, name) {
+                return Some(self.at(i));
+            }
+        }
+        None
+    }
+
+    /// The byte that is loaded at an address.
+    pub(crate) fn load(&self, at: u64) -> Option<u8>
+        ensures { result ≡ loaded (sections_of self.now.headers.bytes.now) at }
+    {
+        for i in 0..self.headers.count {
+            if self.covers(i, at) {
+                return Some(self.byte_at(i, at));
+            }
+        }
+        None
+    }
+
+    /// Whether the section with an index is loaded over an address.
+    fn covers(&self, index: u16, at: u64) -> bool
+        requires { index < self.now.headers.count }
+        ensures { result ≡ covers (section_at self.now.headers.bytes.now index) at }
+    {
+        let header = self.headers.header(index);
+        if header.kind == SHT_NULL {
+            return false;
+        }
+        if !header.is_alloc() {
+            return false;
+        }
+        header.addr <= at && at - header.addr < header.size
+    }
+
+    /// The byte of the section with an index at an address that it covers.
+    fn byte_at(&self, index: u16, at: u64) -> u8
+        requires below { index < self.now.headers.count }
+        requires covers { covers (section_at self.now.headers.bytes.now index) at ≡ true }
+        ensures { result ≡ byte_at (section_at self.now.headers.bytes.now index) at }
+    {
+        let header = self.headers.header(index);
+        if header.kind == SHT_NOBITS {
+            return 0;
+        }
+        header.content(self.headers.bytes)[(at - header.addr) as usize]
+    }
+}

@@ -1,0 +1,134 @@
+//! Reading the file of a small module: its text, a jump table and a symbol table.
+use crate::{ElfFile, ElfRefused};
+use std::process::Abort;
+
+/// The file that is written for a text of ten bytes with two jump entries, one key and one function:
+/// the header, the contents, and nine section headers from 140 (hexadecimal) on.
+const MODULE: &[u8; 896] = b"\
+    \x7fELF\x02\x01\x01\0\0\0\0\0\0\0\0\0\
+    \x02\0>\0\x01\0\0\0\0\0\0\0\0\0\0\0\0\0\0\0\0\0\0\0\
+    @\x01\0\0\0\0\0\0\0\0\0\0@\0\0\0\0\0@\0\x09\0\x08\0\
+    f\x90\x0f\x1fD\0\0\xff\xc0\xc3\0\0\0\0\0\0\
+    \0\0\xfe\xff\x05\0\xfe\xff\xf8\xff\x02\0\0\0\0\0\
+    \xf2\xff\xfd\xff\xf5\xff\xfd\xff\xe9\xff\x02\0\0\0\0\0\
+    \0\0\0\0\0\0\0\0\0\0\0\0\0\0\0\0\
+    \0\0\0\0\0\0\0\0\0\0\0\0\0\0\0\0\0\0\0\0\0\0\0\0\
+    \x01\0\0\0\x12\0\x01\0\0\x10@\0\0\0\0\0\0\0\0\0\0\0\0\0\
+    \x03\0\0\0\x11\0\x05\0\0\x10E\0\0\0\0\0\x10\0\0\0\0\0\0\0\0\0\0\0\0\0\0\0\
+    \0f\0j\0\0\0\0\0\0\0\0\0\0\0\0\
+    \0.text\0__jump_table\0.static_call\
+    _sites\0__mcount_loc\0.data\0.symta\
+    b\0.strtab\0.shstrtab\0\0\0\0\0\0\0\0\0\0\0\0\0\
+    \0\0\0\0\0\0\0\0\0\0\0\0\0\0\0\0\0\0\0\0\0\0\0\0\
+    \0\0\0\0\0\0\0\0\0\0\0\0\0\0\0\0\0\0\0\0\0\0\0\0\0\0\0\0\0\0\0\0\0\0\0\0\0\0\0\0\
+    \x01\0\0\0\x01\0\0\0\x06\0\0\0\0\0\0\0\0\x10@\0\0\0\0\0\
+    @\0\0\0\0\0\0\0\x0a\0\0\0\0\0\0\0\0\0\0\0\0\0\0\0\x10\0\0\0\0\0\0\0\0\0\0\0\0\0\0\0\
+    \x07\0\0\0\x01\0\0\0\x03\0\0\0\0\0\0\0\0\x10B\0\0\0\0\0\
+    P\0\0\0\0\0\0\0\x20\0\0\0\0\0\0\0\0\0\0\0\0\0\0\0\x10\0\0\0\0\0\0\0\0\0\0\0\0\0\0\0\
+    \x14\0\0\0\x01\0\0\0\x03\0\0\0\0\0\0\0\0\x10C\0\0\0\0\0\
+    p\0\0\0\0\0\0\0\0\0\0\0\0\0\0\0\0\0\0\0\0\0\0\0\x10\0\0\0\0\0\0\0\0\0\0\0\0\0\0\0\
+    '\0\0\0\x01\0\0\0\x02\0\0\0\0\0\0\0\0\x10D\0\0\0\0\0\
+    p\0\0\0\0\0\0\0\0\0\0\0\0\0\0\0\0\0\0\0\0\0\0\0\x10\0\0\0\0\0\0\0\0\0\0\0\0\0\0\0\
+    4\0\0\0\x01\0\0\0\x03\0\0\0\0\0\0\0\0\x10E\0\0\0\0\0\
+    p\0\0\0\0\0\0\0\x10\0\0\0\0\0\0\0\0\0\0\0\0\0\0\0\x10\0\0\0\0\0\0\0\0\0\0\0\0\0\0\0\
+    :\0\0\0\x02\0\0\0\0\0\0\0\0\0\0\0\0\0\0\0\0\0\0\0\
+    \x80\0\0\0\0\0\0\0H\0\0\0\0\0\0\0\x07\0\0\0\x01\0\0\0\x10\0\0\0\0\0\0\0\x18\0\0\0\0\0\0\0\
+    B\0\0\0\x03\0\0\0\0\0\0\0\0\0\0\0\0\0\0\0\0\0\0\0\
+    \xd0\0\0\0\0\0\0\0\x05\0\0\0\0\0\0\0\0\0\0\0\0\0\0\0\x10\0\0\0\0\0\0\0\0\0\0\0\0\0\0\0\
+    J\0\0\0\x03\0\0\0\0\0\0\0\0\0\0\0\0\0\0\0\0\0\0\0\
+    \xe0\0\0\0\0\0\0\0T\0\0\0\0\0\0\0\0\0\0\0\0\0\0\0\x10\0\0\0\0\0\0\0\0\0\0\0\0\0\0\0";
+
+/// The file with one byte changed.
+fn changed(rt: &impl Abort, at: usize, byte: u8) -> [u8; 896] {
+    let mut file = *MODULE;
+    *file.get_mut(at).expect(rt, "a byte") = byte;
+    file
+}
+
+#[test]
+fn reads_a_module(rt: HostRuntime) {
+    let file = ElfFile::read(MODULE).expect(&rt, "a module");
+    assert_eq!(rt; file.section_count(), 9);
+    assert_eq!(rt; file.symbol_count(), 3);
+    let text = file.section_named(b".text").expect(&rt, "a text");
+    assert_eq!(rt; (text.index, text.addr, text.size), (1, 0x40_1000, 10));
+    assert_eq!(rt; text.content.first(), Some(&0x66));
+    assert_eq!(rt;
+        file.section_named(b".tex").map(|section| section.index),
+        None
+    );
+    let symtab = file.section(6).expect(&rt, "a symbol table");
+    assert_eq!(rt;
+        (symtab.kind, symtab.link, symtab.name),
+        (2, 7, b".symtab".as_slice())
+    );
+    let key = file.symbol(2).expect(&rt, "a key");
+    assert_eq!(rt;
+        (key.name, key.info, key.shndx, key.value),
+        (b"j".as_slice(), 0x11, 5, 0x45_1000)
+    );
+    assert_eq!(rt; file.load(0x40_1000), Some(0x66));
+    assert_eq!(rt; file.load(0x40_100a), None);
+}
+
+#[test]
+fn refuses_each_front(rt: HostRuntime) {
+    for len in 0..MODULE.len() {
+        let why = if len < 64 {
+            ElfRefused::Short(len as u64)
+        } else {
+            ElfRefused::Headers(0x28)
+        };
+        assert_eq!(rt; ElfFile::read(&MODULE[..len]).err(), Some(why));
+    }
+    assert_eq!(rt; ElfFile::read(&[0; 63]).err(), Some(ElfRefused::Short(63)));
+    assert_eq!(rt; ElfFile::read(&[0; 64]).err(), Some(ElfRefused::Magic(0)));
+}
+
+#[test]
+fn refuses_each_changed_byte(rt: HostRuntime) {
+    let rows = [
+        (0x03, b'G', ElfRefused::Magic(0)),
+        (0x04, 1, ElfRefused::Class(4)),
+        (0x05, 2, ElfRefused::Data(5)),
+        (0x06, 0, ElfRefused::Version(6)),
+        (0x14, 2, ElfRefused::Version(0x14)),
+        (0x12, 3, ElfRefused::Machine(0x12)),
+        (0x10, 3, ElfRefused::Kind(0x10)),
+        (0x10, 1, ElfRefused::Relocatable(0x10)),
+        (0x3a, 63, ElfRefused::Headers(0x3a)),
+        (0x3c, 0, ElfRefused::Headers(0x3c)),
+        (0x28, 0x41, ElfRefused::Headers(0x28)),
+        (0x3e, 9, ElfRefused::Headers(0x3e)),
+        (0x299, 4, ElfRefused::Section(5)),
+        (0x219, 4, ElfRefused::Section(3)),
+        (0x344, 1, ElfRefused::Names(8)),
+        (0x1c0, 0x54, ElfRefused::Names(2)),
+        (0x133, b'x', ElfRefused::Names(8)),
+        (0x2e0, 0x47, ElfRefused::Symbols(0)),
+        (0x2e8, 1, ElfRefused::Symbols(0)),
+        (0x2e8, 9, ElfRefused::Symbols(0)),
+        (0x98, 5, ElfRefused::Symbols(1)),
+        (0xd4, b'x', ElfRefused::Symbols(2)),
+    ];
+    for (at, byte, why) in rows {
+        let file = changed(&rt, at, byte);
+        assert_eq!(rt; ElfFile::read(&file).err(), Some(why), "at {at}");
+    }
+}
+
+#[test]
+fn loads_the_first_section(rt: HostRuntime) {
+    let rows = [
+        (0x1d2, 0x40, 0x40_1000, Some(0x66)),
+        (0x1d2, 0x40, 0x40_100a, Some(0x02)),
+        (0x184, 8, 0x40_1000, Some(0)),
+        (0x184, 0, 0x40_1000, None),
+        (0x188, 4, 0x40_1000, None),
+    ];
+    for (at, byte, address, loaded) in rows {
+        let bytes = changed(&rt, at, byte);
+        let file = ElfFile::read(&bytes).expect(&rt, "a module");
+        assert_eq!(rt; file.load(address), loaded, "at {at}");
+    }
+}

@@ -1,0 +1,96 @@
+-- What `show` says of a module file, and why one is refused.
+use Rattle.std.specs.Prelude.{◌≡◌, ◌≢◌, ◌≤◌, ◌<◌, ℕ, ◌*◌, ◌/◌, ◌%◌, if◌then◌else◌, List, [], ◌∷◌, ◌++◌, length, codes, find, Option, Some, None, Result, Ok, Err}
+use Rattle.std.specs.List.{flat_map, range_with_len}
+use Rattle.std.specs.Str.{bytes_eq}
+use Rattle.poke_base.specs.Host.{Outside}
+use Rattle.poke_base.specs.Number.{hexadecimal}
+use Rattle.elf_module.specs.Elf.{SectionRecord, sections_of}
+use Rattle.elf_module.specs.Refusals.{IsRefusal, Passes}
+use Rattle.site_tables.specs.declared.entries.JumpEntry.{JumpEntry}
+use Rattle.site_tables.specs.declared.entries.CallSite.{CallSite}
+use Rattle.site_tables.specs.declared.entries.TableKind.{TableKind}
+use Rattle.site_tables.specs.declared.entries.TableKind.TheVariants.{Jump, Call, Trace}
+use Rattle.site_tables.specs.Entry.{entry_size, jump_in, call_in, trace_in}
+use Rattle.poke_tool.specs.declared.module_fault.ModuleRefused.{ModuleRefused}
+use Rattle.poke_tool.specs.declared.module_fault.ModuleRefused.TheVariants.{TooLong, Elf, Table}
+use Rattle.poke_tool.specs.Plan.{Holds}
+
+-- how many bytes a module file may have
+abbrev pub module_limit : ℕ
+module_limit = 67108864
+
+-- the section in which a table stands
+abbrev pub table_name : TableKind → List ℕ
+table_name Jump = codes "__jump_table"
+table_name Call = codes ".static_call_sites"
+table_name Trace = codes "__mcount_loc"
+
+-- the first section of that name
+abbrev pub table_in : List SectionRecord → TableKind → Option SectionRecord
+table_in sections kind = find (λ (s : SectionRecord). bytes_eq s.name (table_name kind)) sections
+
+abbrev pub table_of : List ℕ → TableKind → Option SectionRecord
+table_of file kind = table_in (sections_of file) kind
+
+-- the bytes of a table; a missing one is empty
+abbrev pub content_of : Option SectionRecord → List ℕ
+content_of None = []
+content_of (Some s) = s.content
+
+-- a table isn't whole entries
+abbrev pub IsBadTable : List ℕ → TableKind → Type 0
+IsBadTable file kind = length (content_of (table_of file kind)) % entry_size kind ≢ 0
+
+-- the line of a jump entry
+abbrev pub jump_line : JumpEntry → List ℕ
+jump_line e =
+    codes "jump " ++ hexadecimal e.code ++ codes " " ++ hexadecimal e.target ++ codes " " ++ hexadecimal e.key
+    ++ (if e.likely then codes " likely" else codes " unlikely") ++ (if e.bit1 then codes " bit1" else []) ++ 10 ∷ []
+
+-- the line of a static call site
+abbrev pub call_line : CallSite → List ℕ
+call_line c =
+    (if c.tail then codes "tail " else codes "call ") ++ hexadecimal c.addr ++ codes " " ++ hexadecimal c.key
+    ++ (if c.init then codes " init" else []) ++ 10 ∷ []
+
+-- the line of a traced address
+abbrev pub trace_line : ℕ → List ℕ
+trace_line at = codes "trace " ++ hexadecimal at ++ 10 ∷ []
+
+-- the line of the entry at an offset of a table
+abbrev pub entry_line : TableKind → ℕ → List ℕ → ℕ → List ℕ
+entry_line Jump addr content at = jump_line (jump_in addr content at)
+entry_line Call addr content at = call_line (call_in addr content at)
+entry_line Trace addr content at = trace_line (trace_in content at)
+
+-- the lines of a table, in file order
+abbrev pub table_text : TableKind → Option SectionRecord → List ℕ
+table_text kind None = []
+table_text kind (Some s) =
+    flat_map (λ i. entry_line kind s.addr s.content (entry_size kind * i)) (range_with_len 0 (length s.content / entry_size kind))
+
+-- what is shown of a file: jump entries, then calls, then traces
+abbrev pub shown_text : List ℕ → List ℕ
+shown_text file = table_text Jump (table_of file Jump) ++ table_text Call (table_of file Call) ++ table_text Trace (table_of file Trace)
+
+-- why a module file isn't shown, the first thing that is wrong, or the text that is shown of it
+abbrev pub ModuleShows : List ℕ → Result (List ℕ) ModuleRefused → Type 0
+ModuleShows file (Err TooLong) = module_limit < length file
+ModuleShows file (Err (Elf why)) = (length file ≤ module_limit) × IsRefusal file why
+ModuleShows file (Err (Table Jump n)) =
+    (length file ≤ module_limit) × Passes file 13 × IsBadTable file Jump × (n ≡ length (content_of (table_of file Jump)))
+ModuleShows file (Err (Table Call n)) =
+    (length file ≤ module_limit) × Passes file 13 × (¬ IsBadTable file Jump) × IsBadTable file Call
+    × (n ≡ length (content_of (table_of file Call)))
+ModuleShows file (Err (Table Trace n)) =
+    (length file ≤ module_limit) × Passes file 13 × (¬ IsBadTable file Jump) × (¬ IsBadTable file Call) × IsBadTable file Trace
+    × (n ≡ length (content_of (table_of file Trace)))
+ModuleShows file (Ok text) =
+    (length file ≤ module_limit) × Passes file 13 × (¬ IsBadTable file Jump) × (¬ IsBadTable file Call) × (¬ IsBadTable file Trace)
+    × (text ≡ shown_text file)
+
+-- the file says this of what is shown
+pub record SaysShow (outside : Outside) (name : List ℕ) (said : Result (List ℕ) ModuleRefused) : Type 0 where
+  pub file : List ℕ
+  pub holds : Holds outside name file
+  pub says : ModuleShows file said
