@@ -1,0 +1,186 @@
+//! Writing a small module, and plans that don't fit.
+use crate::{KeyStart, Name, Plan, PlanFunction, PlanKey, PlanSite, write};
+use std::alloc::Global;
+use std::test::Fail;
+
+/// The file that is written for a text of ten bytes with two jump entries, one key and one function:
+/// the header, the contents, and nine section headers from 140 (hexadecimal) on.
+const MODULE: &[u8; 896] = b"\
+    \x7fELF\x02\x01\x01\0\0\0\0\0\0\0\0\0\
+    \x02\0>\0\x01\0\0\0\0\0\0\0\0\0\0\0\0\0\0\0\0\0\0\0\
+    @\x01\0\0\0\0\0\0\0\0\0\0@\0\0\0\0\0@\0\x09\0\x08\0\
+    f\x90\x0f\x1fD\0\0\xff\xc0\xc3\0\0\0\0\0\0\
+    \0\0\xfe\xff\x05\0\xfe\xff\xf8\xff\x02\0\0\0\0\0\
+    \xf2\xff\xfd\xff\xf5\xff\xfd\xff\xe9\xff\x02\0\0\0\0\0\
+    \0\0\0\0\0\0\0\0\0\0\0\0\0\0\0\0\
+    \0\0\0\0\0\0\0\0\0\0\0\0\0\0\0\0\0\0\0\0\0\0\0\0\
+    \x01\0\0\0\x12\0\x01\0\0\x10@\0\0\0\0\0\0\0\0\0\0\0\0\0\
+    \x03\0\0\0\x11\0\x05\0\0\x10E\0\0\0\0\0\x10\0\0\0\0\0\0\0\0\0\0\0\0\0\0\0\
+    \0f\0j\0\0\0\0\0\0\0\0\0\0\0\0\
+    \0.text\0__jump_table\0.static_call\
+    _sites\0__mcount_loc\0.data\0.symta\
+    b\0.strtab\0.shstrtab\0\0\0\0\0\0\0\0\0\0\0\0\0\
+    \0\0\0\0\0\0\0\0\0\0\0\0\0\0\0\0\0\0\0\0\0\0\0\0\
+    \0\0\0\0\0\0\0\0\0\0\0\0\0\0\0\0\0\0\0\0\0\0\0\0\0\0\0\0\0\0\0\0\0\0\0\0\0\0\0\0\
+    \x01\0\0\0\x01\0\0\0\x06\0\0\0\0\0\0\0\0\x10@\0\0\0\0\0\
+    @\0\0\0\0\0\0\0\x0a\0\0\0\0\0\0\0\0\0\0\0\0\0\0\0\x10\0\0\0\0\0\0\0\0\0\0\0\0\0\0\0\
+    \x07\0\0\0\x01\0\0\0\x03\0\0\0\0\0\0\0\0\x10B\0\0\0\0\0\
+    P\0\0\0\0\0\0\0\x20\0\0\0\0\0\0\0\0\0\0\0\0\0\0\0\x10\0\0\0\0\0\0\0\0\0\0\0\0\0\0\0\
+    \x14\0\0\0\x01\0\0\0\x03\0\0\0\0\0\0\0\0\x10C\0\0\0\0\0\
+    p\0\0\0\0\0\0\0\0\0\0\0\0\0\0\0\0\0\0\0\0\0\0\0\x10\0\0\0\0\0\0\0\0\0\0\0\0\0\0\0\
+    '\0\0\0\x01\0\0\0\x02\0\0\0\0\0\0\0\0\x10D\0\0\0\0\0\
+    p\0\0\0\0\0\0\0\0\0\0\0\0\0\0\0\0\0\0\0\0\0\0\0\x10\0\0\0\0\0\0\0\0\0\0\0\0\0\0\0\
+    4\0\0\0\x01\0\0\0\x03\0\0\0\0\0\0\0\0\x10E\0\0\0\0\0\
+    p\0\0\0\0\0\0\0\x10\0\0\0\0\0\0\0\0\0\0\0\0\0\0\0\x10\0\0\0\0\0\0\0\0\0\0\0\0\0\0\0\
+    :\0\0\0\x02\0\0\0\0\0\0\0\0\0\0\0\0\0\0\0\0\0\0\0\
+    \x80\0\0\0\0\0\0\0H\0\0\0\0\0\0\0\x07\0\0\0\x01\0\0\0\x10\0\0\0\0\0\0\0\x18\0\0\0\0\0\0\0\
+    B\0\0\0\x03\0\0\0\0\0\0\0\0\0\0\0\0\0\0\0\0\0\0\0\
+    \xd0\0\0\0\0\0\0\0\x05\0\0\0\0\0\0\0\0\0\0\0\0\0\0\0\x10\0\0\0\0\0\0\0\0\0\0\0\0\0\0\0\
+    J\0\0\0\x03\0\0\0\0\0\0\0\0\0\0\0\0\0\0\0\0\0\0\0\
+    \xe0\0\0\0\0\0\0\0T\0\0\0\0\0\0\0\0\0\0\0\0\0\0\0\x10\0\0\0\0\0\0\0\0\0\0\0\0\0\0\0";
+
+/// A name.
+fn name(bytes: &[u8]) -> Name {
+    let mut name = Name::new();
+    let _ = name.try_extend_from_slice(bytes);
+    name
+}
+
+/// The plan of that file.
+fn two_jumps(alloc: Global) -> Result<Plan, Fail> {
+    let mut text = Vec::new(alloc);
+    text.extend_from_slice(b"\x66\x90\x0f\x1f\x44\0\0\xff\xc0\xc3")?;
+    let mut sites = Vec::new(alloc);
+    sites.push(PlanSite::Jump {
+        at: 0x40_1000,
+        target: 0x40_1009,
+        key: 0,
+        likely: false,
+    })?;
+    sites.push(PlanSite::Jump {
+        at: 0x40_1002,
+        target: 0x40_1009,
+        key: 0,
+        likely: true,
+    })?;
+    let mut keys = Vec::new(alloc);
+    keys.push(PlanKey {
+        name: name(b"j"),
+        start: KeyStart::Count(0),
+    })?;
+    let mut functions = Vec::new(alloc);
+    functions.push(PlanFunction {
+        name: name(b"f"),
+        at: 0x40_1000,
+    })?;
+    Ok(Plan {
+        base: 0x40_1000,
+        text,
+        sites,
+        keys,
+        functions,
+    })
+}
+
+#[test]
+fn a_small_module_is_written(rt: HostRuntime) -> Result<(), Fail> {
+    let alloc = rt.alloc();
+    let plan = two_jumps(alloc)?;
+    assert!(rt; plan.fits());
+    let mut out = Vec::new(alloc);
+    if plan.fits() {
+        write(&plan, &mut out)?;
+    }
+    assert_eq!(rt; out.as_slice(), MODULE.as_slice());
+    Ok(())
+}
+
+#[test]
+fn plans_of_other_sizes_do_not_fit(rt: HostRuntime) -> Result<(), Fail> {
+    let alloc = rt.alloc();
+    for (bytes, fits) in [(0, false), (10, true), (65_536, true), (65_537, false)] {
+        let mut plan = two_jumps(alloc)?;
+        plan.text = vec![in alloc; 0x90; bytes]?;
+        assert_eq!(rt; plan.fits(), fits);
+    }
+    for (count, fits) in [(1_024, true), (1_025, false)] {
+        let mut plan = two_jumps(alloc)?;
+        plan.sites = vec![in alloc; PlanSite::Trace { at: 0x40_1000 }; count]?;
+        assert_eq!(rt; plan.fits(), fits);
+    }
+    Ok(())
+}
+
+#[test]
+fn plans_with_other_sites_do_not_fit(rt: HostRuntime) -> Result<(), Fail> {
+    let alloc = rt.alloc();
+    let misfits = [
+        PlanSite::Trace { at: 0x40_0fff },
+        PlanSite::Trace { at: 0x40_100a },
+        PlanSite::Jump {
+            at: 0x40_1000,
+            target: 0x40_100a,
+            key: 0,
+            likely: false,
+        },
+        PlanSite::Jump {
+            at: 0x40_1000,
+            target: 0x40_1009,
+            key: 1,
+            likely: false,
+        },
+        PlanSite::Call {
+            at: 0x40_1000,
+            key: 0,
+            tail: false,
+        },
+    ];
+    for site in misfits {
+        let mut plan = two_jumps(alloc)?;
+        plan.sites.push(site)?;
+        assert!(rt; !plan.fits());
+    }
+    Ok(())
+}
+
+#[test]
+fn plans_with_other_names_do_not_fit(rt: HostRuntime) -> Result<(), Fail> {
+    let alloc = rt.alloc();
+    let rows: [(&[u8], u64, bool); 5] = [
+        (b"", 0x40_1009, false),
+        (b"a\0", 0x40_1009, false),
+        (b"a", 0x40_1009, true),
+        (&[b'a'; 64], 0x40_1009, true),
+        (b"a", 0x40_100a, false),
+    ];
+    for (bytes, at, fits) in rows {
+        let mut plan = two_jumps(alloc)?;
+        plan.functions.push(PlanFunction {
+            name: name(bytes),
+            at,
+        })?;
+        assert_eq!(rt; plan.fits(), fits);
+    }
+    Ok(())
+}
+
+#[test]
+fn plans_with_other_keys_do_not_fit(rt: HostRuntime) -> Result<(), Fail> {
+    let alloc = rt.alloc();
+    let rows: [(&[u8], KeyStart, bool); 5] = [
+        (b"", KeyStart::Func(0), false),
+        (b"\0", KeyStart::Func(0), false),
+        (b"k", KeyStart::Func(0), true),
+        (b"k", KeyStart::Count(2_147_483_647), true),
+        (b"k", KeyStart::Count(2_147_483_648), false),
+    ];
+    for (bytes, start, fits) in rows {
+        let mut plan = two_jumps(alloc)?;
+        plan.keys.push(PlanKey {
+            name: name(bytes),
+            start,
+        })?;
+        assert_eq!(rt; plan.fits(), fits);
+    }
+    Ok(())
+}
