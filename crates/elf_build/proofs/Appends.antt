@@ -14,11 +14,11 @@ appended-twice old a b middle new (Ok done) first second =
     second ∙ ap (λ (xs : List ℕ). xs ++ b) first ∙ append_assoc old a b
 appended-twice old a b middle new (Err why) first second = tt
 
-and-left : (a b : Bool) → (a && b) ≡ true → a ≡ true
+pub and-left : (a b : Bool) → (a && b) ≡ true → a ≡ true
 and-left true b both = refl
 and-left false b both = both
 
-and-right : (a b : Bool) → (a && b) ≡ true → b ≡ true
+pub and-right : (a b : Bool) → (a && b) ≡ true → b ≡ true
 and-right true b both = both
 and-right false b both = absurd (cc)
 

@@ -13,9 +13,9 @@ use Rattle.elf_build.specs.declared.plan.PlanFunction.{PlanFunction}
 abbrev pub is_in_text : Plan → ℕ → Bool
 is_in_text plan at = nat_le plan.base at && nat_lt (at - plan.base) (length plan.text.items)
 
--- at least one byte, none of them zero; a name has room for 64
+-- 1 to 64 bytes, none of them zero
 abbrev pub is_name : List ℕ → Bool
-is_name name = nat_lt 0 (length name) && list_all (λ byte. not (byte == 0)) name
+is_name name = nat_lt 0 (length name) && nat_le (length name) 64 && list_all (λ byte. not (byte == 0)) name
 
 abbrev pub is_count : KeyStart → Bool
 is_count (Count count) = true

@@ -8,6 +8,20 @@ use crate::tables::{Table, call_record, data_at, jump_record, start_record, tabl
 use crate::{Name, Plan, PlanFunction, PlanKey, PlanSite};
 use poke_base::NoMemory;
 
+/// What the symbols of functions and of keys say of their type: global, of type FUNC and OBJECT
+/// (System V gABI: symbol table).
+const GLOBAL_FUNC: u8 = 0x12;
+
+const GLOBAL_OBJECT: u8 = 0x11;
+
+/// The indices of `.text` and `.data`.
+const TEXT_SECTION: u16 = 1;
+
+const DATA_SECTION: u16 = 5;
+
+/// How many bytes a key has.
+const KEY_SIZE: u64 = 16;
+
 /// Adds bytes.
 pub fn add(out: &mut Vec<u8>, bytes: &[u8]) -> Result<(), NoMemory>
     ensures { OnOk result (out.new.items ≡ out.old.items ++ bytes.now) }
@@ -90,7 +104,7 @@ fn key_at(plan: &Plan, key: u32) -> u64
     requires key { key < 1024 }
     ensures { result ≡ key_at plan.now key }
 {
-    plan.base + 0x50000 + 16 * u64::from(key)
+    data_at(plan) + KEY_SIZE * u64::from(key)
 }
 
 /// Adds what the keys hold at the start.
@@ -112,7 +126,10 @@ fn add_function_symbols(out: &mut Vec<u8>, functions: &[PlanFunction]) -> Result
 {
     let mut name = 1;
     for function in functions {
-        add(out, &symbol(name, 0x12, 1, function.at, 0))?;
+        add(
+            out,
+            &symbol(name, GLOBAL_FUNC, TEXT_SECTION, function.at, 0),
+        )?;
         name += function.name.len() as u32 + 1;
     }
     Ok(name)
@@ -128,9 +145,12 @@ fn add_key_symbols(out: &mut Vec<u8>, first: u32, at: u64, keys: &[PlanKey]) -> 
     let mut name = first;
     let mut at = at;
     for key in keys {
-        add(out, &symbol(name, 0x11, 5, at, 16))?;
+        add(
+            out,
+            &symbol(name, GLOBAL_OBJECT, DATA_SECTION, at, KEY_SIZE),
+        )?;
         name += key.name.len() as u32 + 1;
-        at += 16;
+        at += KEY_SIZE;
     }
     Ok(())
 }

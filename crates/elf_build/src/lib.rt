@@ -3,6 +3,7 @@
 
 mod contents;
 mod file;
+mod generation;
 pub mod plan;
 mod put;
 mod sections;
@@ -11,4 +12,5 @@ mod tables;
 mod tests;
 
 pub use file::write;
+pub use generation::generated;
 pub use plan::{KeyStart, Name, Plan, PlanFunction, PlanKey, PlanSite};

@@ -191,7 +191,7 @@ impl PlanKey {
 fn is_name(name: &Name) -> bool
     ensures { result ≡ is_name name.now.items }
 {
-    !name.is_empty() && has_no_zero(name)
+    !name.is_empty() && name.len() <= 64 && has_no_zero(name)
 }
 
 fn has_no_zero(bytes: &[u8]) -> bool

@@ -37,7 +37,7 @@ pub fn start_record(start: KeyStart) -> Record
 }
 
 /// Adds a field of four bytes at an address, which leads to another.
-fn put_near(out: &mut Record, field: u64, target: u64)
+pub fn put_near(out: &mut Record, field: u64, target: u64)
     requires { array_vec_len out.old ≤ 60 }
     ensures bytes { out.new.items ≡ out.old.items ++ lead 4 field target }
     ensures len { array_vec_len out.new ≡ array_vec_len out.old + 4 }
@@ -84,15 +84,24 @@ pub fn call_record(field: u64, at: u64, key: u64) -> Record
     out
 }
 
+/// Where the tables and the keys stand behind the text's address.
+const JUMPS: u64 = 0x2_0000;
+
+const CALLS: u64 = 0x3_0000;
+
+const TRACES: u64 = 0x4_0000;
+
+const KEYS: u64 = 0x5_0000;
+
 /// The address of a table.
 pub fn table_at(plan: &Plan, table: Table) -> u64
     requires { plan.now.base + 0x50000 < 2 ^ 64 }
     ensures { result ≡ table_at table plan.now }
 {
     match table {
-        Table::Jumps => plan.base + 0x20000,
-        Table::Calls => plan.base + 0x30000,
-        Table::Traces => plan.base + 0x40000,
+        Table::Jumps => plan.base + JUMPS,
+        Table::Calls => plan.base + CALLS,
+        Table::Traces => plan.base + TRACES,
     }
 }
 
@@ -101,5 +110,5 @@ pub fn data_at(plan: &Plan) -> u64
     requires { plan.now.base + 0x50000 < 2 ^ 64 }
     ensures { result ≡ data_at plan.now }
 {
-    plan.base + 0x50000
+    plan.base + KEYS
 }

@@ -27,7 +27,7 @@ impl<'a> Model for ElfFile<'a> {
 }
 
 impl<'a> ElfFile<'a> {
-    ghost use Rattle.std.specs.Prelude.{◌≡◌, ◌<◌, ◌-◌, ◌^◌, option_map, find, length, slice_get, IfOk, IfErr, IfSome};
+    ghost use Rattle.std.specs.Prelude.{◌≡◌, ◌<◌, ◌≤◌, ◌-◌, ◌^◌, option_map, find, length, slice_get, IfOk, IfErr, IfSome};
     ghost use Rattle.std.specs.Str.{bytes_eq};
     ghost use Rattle.elf_module.specs.Elf.{section_of, symbol_of, loaded};
     ghost use Rattle.elf_module.specs.Refusals.{IsRefusal, Reads};
@@ -74,6 +74,7 @@ impl<'a> ElfFile<'a> {
     pub fn section(&self, i: u16) -> Option<Section<'a>>
         ensures section { option_map section_of result ≡ slice_get self.now.sections i }
         ensures small { IfSome result (λ section. length section.content.now < 2 ^ 32 - 1) }
+        ensures sized { IfSome result (λ section. length section.content.now ≤ section.size) }
     {
         self.sections.get(i)
     }
@@ -89,6 +90,7 @@ impl<'a> ElfFile<'a> {
     pub fn section_named(&self, name: &[u8]) -> Option<Section<'a>>
         ensures first { option_map section_of result ≡ find (λ s. bytes_eq s.name name.now) self.now.sections }
         ensures small { IfSome result (λ section. length section.content.now < 2 ^ 32 - 1) }
+        ensures sized { IfSome result (λ section. length section.content.now ≤ section.size) }
     {
         self.sections.find(name)
     }

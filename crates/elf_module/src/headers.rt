@@ -102,7 +102,8 @@ impl SectionHeader {
     /// The bytes of the section in its file.
     pub(crate) fn content<'a>(&self, bytes: &'a [u8]) -> &'a [u8]
         requires { is_empty_type self.now.kind ≡ false → self.now.offset + self.now.size ≤ length bytes.now }
-        ensures { result.now ≡ (if is_empty_type self.now.kind then [] else piece self.now.offset self.now.size bytes.now) }
+        ensures bytes { result.now ≡ (if is_empty_type self.now.kind then [] else piece self.now.offset self.now.size bytes.now) }
+        ensures sized { length result.now ≤ self.now.size }
     {
         if self.is_empty() {
             return &[];

@@ -60,6 +60,7 @@ impl<'a> Sections<'a> {
         requires { index < self.now.headers.count }
         ensures at { section_of result ≡ section_at self.now.headers.bytes.now index }
         ensures within { length result.content.now ≤ length self.now.headers.bytes.now }
+        ensures sized { length result.content.now ≤ result.size }
     {
         let header = self.headers.header(index);
         Section {
@@ -78,6 +79,7 @@ impl<'a> Sections<'a> {
     pub(crate) fn get(&self, index: u16) -> Option<Section<'a>>
         ensures found { option_map section_of result ≡ slice_get (sections_of self.now.headers.bytes.now) index }
         ensures within { IfSome result (λ section. length section.content.now ≤ length self.now.headers.bytes.now) }
+        ensures sized { IfSome result (λ section. length section.content.now ≤ section.size) }
     {
         if index < self.headers.count {
             Some(self.at(index))
@@ -117,6 +119,7 @@ impl<'a> Sections<'a> {
     pub(crate) fn find(&self, name: &[u8]) -> Option<Section<'a>>
         ensures found { option_map section_of result ≡ find (λ s. bytes_eq s.name name.now) (sections_of self.now.headers.bytes.now) }
         ensures within { IfSome result (λ section. length section.content.now ≤ length self.now.headers.bytes.now) }
+        ensures sized { IfSome result (λ section. length section.content.now ≤ section.size) }
     {
         for i in 0..self.headers.count {
             if is_name_at(self.names, self.headers.header(i).name as usize, name) {

@@ -1,6 +1,6 @@
 -- The sentences on how the program ends follow from `Runs`, by cases on what the command answered.
-use Rattle.std.proofs.Common.{◌≡◌, ◌≢◌, ◌↔◌, ℕ, List, take, IsSome, Option, Some, None, Result, Ok, Err, IfErr, OnErr, refl, sym, ap, ◌∙◌, subst, inl, inr, lit<, arith, ◌<◌, ◌⊎◌}
-use Rattle.poke_base.specs.Host.{Files, Outside, Rose, Tells, Complains, Adds, with_more}
+use Rattle.std.proofs.Common.{◌≡◌, ◌≢◌, ◌↔◌, ℕ, List, [], take, IsSome, Option, Some, None, Result, Ok, Err, IfErr, OnErr, refl, sym, ap, ◌∙◌, subst, inl, inr, lit<, arith, ◌<◌, ◌⊎◌}
+use Rattle.poke_base.specs.Host.{Files, Outside, Rose, Tells, Complains, Adds, with_file, with_more}
 use Rattle.insn_forms.specs.declared.forms.Change.{Change}
 use Rattle.poke_base.proofs.Outsides.{Tells-no_more, Tells-trans}
 use Rattle.poke_tool.specs.declared.fault.Fault.{Fault}
@@ -22,8 +22,8 @@ use Rattle.poke_tool.specs.declared.plan_line.PlanRefused.TheVariants.{TooLong, 
 use Rattle.poke_tool.specs.declared.plan_line.Wish.{Wish}
 use Rattle.poke_tool.specs.PlanLine.{PokeLine, IsWished}
 use Rattle.poke_tool.specs.Plan.{Holds}
-use Rattle.poke_tool.specs.Runs.{RunsRow, Ends, Does, Fails, Keeps, LeavesAll, PrintsSaid, PrintsText, Says}
-use Rattle.poke_tool.specs.Endings.{AsksInOrder, Complained, EndsAloud, EndsSaying}
+use Rattle.poke_tool.specs.Runs.{RunsRow, Ends, Does, DoesMake, Fails, HoldsModule, Keeps, LeavesAll, PrintsSaid, PrintsText, Says}
+use Rattle.poke_tool.specs.Endings.{AsksInOrder, Complained, EndsAloud, EndsMaking, EndsSaying}
 
 -- what is added to the middle is added to what was before
 more_later : {A : Type 0} (a b : Option (List A)) (more : List A) → Tells a b → Tells (with_more a more) (with_more b more)
@@ -60,6 +60,7 @@ complained_fault row old middle new fault status keeps (is, (sent, complains)) =
 keeps_of : (row : Row) (old middle : Outside) (result : Result (Unit {0}) Fault) → Does row old middle result → Keeps row old middle result
 keeps_of (command.Plan file) old middle result does = does.keeps
 keeps_of (command.Show file) old middle result does = does.keeps
+keeps_of (command.Make n file) old middle result does = does.keeps
 
 -- no command ends with status 1
 not_bad_words : (old middle new : Outside) (result : Result (Unit {0}) Fault) (status : ℕ) → IfErr result (Fails old middle) → Ends middle new result status → status ≢ 1
@@ -251,11 +252,13 @@ says_apart (command.Show file) outside text (Plan why) told says refused = refus
 says_apart (command.Show file) outside text Read told says refused = refused
 says_apart (command.Show file) outside text Write told says refused = refused
 says_apart (command.Show file) outside text Memory told says refused = refused
+says_apart (command.Make n file) outside text why told says refused = refused
 
--- the status of what a command's files are refused for
+-- the status of what a command's files are refused for; `make` reads none
 refusal_status : Row → ℕ
 refusal_status (command.Plan file) = 3
 refusal_status (command.Show file) = 2
+refusal_status (command.Make n file) = 0
 
 -- each of its refusals has that status
 says_status : (row : Row) (outside : Outside) (why : Fault) → Says row outside (Err why) → status_of why ≡ refusal_status row
@@ -272,6 +275,7 @@ says_status (command.Show file) outside (Plan why) refused = absurd refused
 says_status (command.Show file) outside Read refused = absurd refused
 says_status (command.Show file) outside Write refused = absurd refused
 says_status (command.Show file) outside Memory refused = absurd refused
+says_status (command.Make n file) outside why refused = absurd refused
 
 -- what the files said in the middle they say at the end
 says_later : (row : Row) (middle new : Outside) (said : Result (List ℕ) Fault) → Tells middle.files new.files → Says row middle said → Says row new said
@@ -293,6 +297,7 @@ says_later (command.Show file) middle new (Err (Plan why)) tells says = says
 says_later (command.Show file) middle new (Err Read) tells says = says
 says_later (command.Show file) middle new (Err Write) tells says = says
 says_later (command.Show file) middle new (Err Memory) tells says = says
+says_later (command.Make n file) middle new said tells says = says
 
 -- where a command's files are refused, it ends with the status of that
 ends_refused : (row : Row) (old middle new : Outside) (fault : Fault) (status : ℕ) → Keeps row old middle (Err fault) → Says row middle (Err fault) → (status_of fault ≡ 2) ⊎ (status_of fault ≡ 3) → Ends middle new (Err fault) status → EndsSaying row old new status
@@ -364,12 +369,72 @@ ends_by_answer row old middle new (Err Memory) status keeps prints (is, (sent, c
     not_refused (inl two) = omega arith
     not_refused (inr three) = omega arith
 
+-- `make` prints nothing, and refuses no file
+make_prints : (n : ℕ) (name : List ℕ) (old middle : Outside) (result : Result (Unit {0}) Fault) → DoesMake n name old middle result → PrintsSaid (command.Make n name) old middle result
+make_prints n name old middle (Ok done) does =
+    ([], refl, Tells-trans _ old.printed middle.printed (Tells-no_more old.printed) does.printed)
+make_prints n name old middle (Err Write) does = (
+  [],
+  refl,
+  record {
+    part = [];
+    front = refl;
+    printed = Tells-trans _ old.printed middle.printed (Tells-no_more old.printed) does.printed;
+  },
+)
+make_prints n name old middle (Err Words) does = absurd does.makes
+make_prints n name old middle (Err (Module why)) does = absurd does.makes
+make_prints n name old middle (Err (Plan why)) does = absurd does.makes
+make_prints n name old middle (Err Read) does = absurd does.makes
+make_prints n name old middle (Err Memory) does = tt
+
 -- what a command prints of what its files say
 prints_of : (row : Row) (old middle : Outside) (result : Result (Unit {0}) Fault) → Does row old middle result → PrintsSaid row old middle result
 prints_of (command.Plan file) old middle result does = does.prints
 prints_of (command.Show file) old middle result does = does.prints
+prints_of (command.Make n file) old middle result does = make_prints n file old middle result does
 
 -- the statuses of a command
 pub ends_saying : (row : Row) (old new : Outside) (status : ℕ) → RunsRow (Some row) old new status → EndsSaying row old new status
 ends_saying row old new status runs =
     ends_by_answer row old runs.middle new runs.result status (keeps_of row old runs.middle runs.result runs.does) (prints_of row old runs.middle runs.result runs.does) runs.ends
+
+-- the statuses of `make`, by what it answered
+make_by_answer : (n : ℕ) (name : List ℕ) (old middle new : Outside) (result : Result (Unit {0}) Fault) (status : ℕ) → DoesMake n name old middle result → Ends middle new result status → EndsMaking n name old new status
+make_by_answer n name old middle new (Ok done) status does (is, same_outside) = record {
+  done = λ zero_is. subst (λ (o : Outside). HoldsModule n name old o) (sym same_outside) does.makes;
+  cut = λ six. absurd (omega arith);
+  only = inl is;
+  prints_nothing = subst (λ (o : Outside). Tells old.printed o.printed) (sym same_outside) does.printed;
+}
+make_by_answer n name old middle new (Err Write) status does (is, (sent, complains)) = record {
+  done = λ zero_is. absurd (omega arith);
+  cut = λ six. record {
+    bytes = does.makes.bytes;
+    is_module = does.makes.is_module;
+    part = does.makes.part;
+    front = does.makes.front;
+    files = files_later does.makes.files;
+  };
+  only = inr (inl is);
+  prints_nothing = Tells-trans old.printed middle.printed new.printed does.printed complains.printed;
+}
+  where
+    files_later : Tells old.files middle.files ⊎ Tells (with_file old.files name does.makes.part) middle.files → Tells old.files new.files ⊎ Tells (with_file old.files name does.makes.part) new.files
+    files_later (inl same) = inl (Tells-trans old.files middle.files new.files same complains.files)
+    files_later (inr made) = inr (Tells-trans _ middle.files new.files made complains.files)
+make_by_answer n name old middle new (Err Memory) status does (is, (sent, complains)) = record {
+  done = λ zero_is. absurd (omega arith);
+  cut = λ six. absurd (omega arith);
+  only = inr (inr is);
+  prints_nothing = Tells-trans old.printed middle.printed new.printed does.printed complains.printed;
+}
+make_by_answer n name old middle new (Err Words) status does ends = absurd does.makes
+make_by_answer n name old middle new (Err (Module why)) status does ends = absurd does.makes
+make_by_answer n name old middle new (Err (Plan why)) status does ends = absurd does.makes
+make_by_answer n name old middle new (Err Read) status does ends = absurd does.makes
+
+-- the statuses of `make`
+pub ends_making : (n : ℕ) (name : List ℕ) (old new : Outside) (status : ℕ) → RunsRow (Some (command.Make n name)) old new status → EndsMaking n name old new status
+ends_making n name old new status runs =
+    make_by_answer n name old runs.middle new runs.result status runs.does runs.ends

@@ -3,3 +3,16 @@ pub mod PlanLines
 pub mod Plans
 pub mod FileRuns
 pub mod TableLines
+pub mod WrittenFields
+pub mod WrittenStanding
+pub mod WrittenBounds
+pub mod WrittenSections
+pub mod WrittenLeads
+pub mod WrittenRows
+pub mod WrittenTables
+pub mod WrittenNamePlaces
+pub mod WrittenSymbolRows
+pub mod WrittenKeyBytes
+pub mod WrittenPassing
+pub mod WrittenReadBack
+pub mod MakeRuns

@@ -1,21 +1,24 @@
 -- The commands, as the words after the program's name give them.
-use Rattle.std.specs.Prelude.{ℕ, if◌then◌else◌, List, [], ◌∷◌, map, codes, String, Option, Some, None, string_bytes}
+use Rattle.std.specs.Prelude.{◌&&◌, ◌≤◌, ⊤, ℕ, nat_le, if◌then◌else◌, List, [], ◌∷◌, map, codes, String, Option, Some, None, string_bytes, option_map}
 use Rattle.std.specs.declared.alloc.Global.{Global}
 use Rattle.std.specs.Str.{bytes_eq}
 use Rattle.poke_base.specs.declared.host.AskedBy.{AskedBy}
-use Rattle.poke_base.specs.declared.host.AskedBy.TheVariants.{Read}
+use Rattle.poke_base.specs.declared.host.AskedBy.TheVariants.{Read, Make as MakeFile}
+use Rattle.poke_base.specs.Number.{dec_number}
 use Rattle.poke_tool.specs.declared.command.Command.{Command}
-use Rattle.poke_tool.specs.declared.command.Command.TheVariants.{Plan as WithPlan, Show as WithShow}
+use Rattle.poke_tool.specs.declared.command.Command.TheVariants.{Plan as WithPlan, Show as WithShow, Make as WithMake}
 
 -- a command with the names of its files
 pub data Row : Type 0 where
   Plan : List ℕ → Row
   Show : List ℕ → Row
+  Make : ℕ → List ℕ → Row
 
 -- the command that the program read
 abbrev pub row : Command → Row
 row (WithPlan file) = Plan file.now
 row (WithShow module_file) = Show module_file.now
+row (WithMake blocks module_file) = Make blocks module_file.now
 
 -- the words after the program's name
 abbrev pub words_of : List (String Global) → List (List ℕ)
@@ -33,15 +36,38 @@ show_row [] = None
 show_row (module_file ∷ []) = Some (Show module_file)
 show_row (module_file ∷ more ∷ rest) = None
 
+-- a number of blocks, 10 to 1,000
+abbrev pub in_range : Option ℕ → Option ℕ
+in_range None = None
+in_range (Some n) = if nat_le 10 n && nat_le n 1000 then Some n else None
+
+abbrev pub block_count : List ℕ → Option ℕ
+block_count word = in_range (dec_number word)
+
+-- `make N FILE`
+abbrev pub make_row : List (List ℕ) → Option Row
+make_row [] = None
+make_row (n ∷ []) = None
+make_row (n ∷ module_file ∷ []) = option_map (λ n. Make n module_file) (block_count n)
+make_row (n ∷ module_file ∷ more ∷ rest) = None
+
 -- the command that the words are; none for all other words
 abbrev pub row_of : List (List ℕ) → Option Row
 row_of [] = None
 row_of (name ∷ rest) =
     if bytes_eq name (codes "plan") then plan_row rest
     else if bytes_eq name (codes "show") then show_row rest
+    else if bytes_eq name (codes "make") then make_row rest
     else None
 
 -- the file words of a command from left to right, each with the call that it is handed to
 abbrev pub file_words : Row → List (List ℕ × AskedBy)
 file_words (Plan file) = (file, Read) ∷ []
 file_words (Show module_file) = (module_file, Read) ∷ []
+file_words (Make n module_file) = (module_file, MakeFile) ∷ []
+
+-- the numbers of a command are in their ranges
+abbrev pub IsInRange : Command → Type 0
+IsInRange (WithPlan file) = ⊤
+IsInRange (WithShow module_file) = ⊤
+IsInRange (WithMake blocks module_file) = (10 ≤ blocks) × (blocks ≤ 1000)

@@ -6,7 +6,7 @@ use Rattle.poke_base.specs.Host.{Outside, Rose, Tells, Adds, with_more}
 use Rattle.poke_tool.specs.declared.fault.Fault.{Fault}
 use Rattle.poke_tool.specs.Command.{Row, file_words}
 use Rattle.poke_tool.specs.Fault.{status_of, complaint_of}
-use Rattle.poke_tool.specs.Runs.{PrintsText, PrintsFront, Says}
+use Rattle.poke_tool.specs.Runs.{HoldsFront, HoldsModule, PrintsText, PrintsFront, Says}
 
 -- the file words of the command, none where the words are no command
 abbrev pub names_of : Option Row → List (List ℕ × AskedBy)
@@ -43,3 +43,10 @@ pub record EndsSaying (row : Row) (old new : Outside) (status : ℕ) : Type 0 wh
   pub refuses : (why : Fault) → IsSome new.files → Says row new (Err why) → (status ≡ status_of why) ⊎ ((status ≡ 5) ⊎ (status ≡ 7))
   -- files that say a text are done, where no read and no write failed, but for want of memory
   pub complete : (text : List ℕ) → IsSome new.files → Says row new (Ok text) → ¬ Rose old.read_faults new.read_faults → ¬ Rose old.write_faults new.write_faults → (status ≡ 0) ⊎ (status ≡ 7)
+
+-- when each status comes of `make`, and what it leaves of its file
+pub record EndsMaking (n : ℕ) (name : List ℕ) (old new : Outside) (status : ℕ) : Type 0 where
+  pub done : status ≡ 0 → HoldsModule n name old new
+  pub cut : status ≡ 6 → HoldsFront n name old new
+  pub only : (status ≡ 0) ⊎ ((status ≡ 6) ⊎ (status ≡ 7))
+  pub prints_nothing : Tells old.printed new.printed

@@ -7,3 +7,4 @@ pub mod Runs
 pub mod Endings
 pub mod SiteBytes
 pub mod Tables
+pub mod Written

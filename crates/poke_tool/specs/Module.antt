@@ -1,7 +1,6 @@
 -- What `show` says of a module file, and why one is refused.
-use Rattle.std.specs.Prelude.{◌≡◌, ◌≢◌, ◌≤◌, ◌<◌, ℕ, ◌*◌, ◌/◌, ◌%◌, if◌then◌else◌, List, [], ◌∷◌, ◌++◌, length, codes, find, Option, Some, None, Result, Ok, Err}
+use Rattle.std.specs.Prelude.{◌≡◌, ◌≢◌, ◌≤◌, ◌<◌, ℕ, ◌*◌, ◌/◌, ◌%◌, if◌then◌else◌, List, [], ◌∷◌, ◌++◌, length, codes, Option, Some, None, Result, Ok, Err}
 use Rattle.std.specs.List.{flat_map, range_with_len}
-use Rattle.std.specs.Str.{bytes_eq}
 use Rattle.poke_base.specs.Host.{Outside}
 use Rattle.poke_base.specs.Number.{hexadecimal}
 use Rattle.elf_module.specs.Elf.{SectionRecord, sections_of}
@@ -11,6 +10,7 @@ use Rattle.site_tables.specs.declared.entries.CallSite.{CallSite}
 use Rattle.site_tables.specs.declared.entries.TableKind.{TableKind}
 use Rattle.site_tables.specs.declared.entries.TableKind.TheVariants.{Jump, Call, Trace}
 use Rattle.site_tables.specs.Entry.{entry_size, jump_in, call_in, trace_in}
+pub use Rattle.site_tables.specs.Tables.{content_of, table_in, table_name}
 use Rattle.poke_tool.specs.declared.module_fault.ModuleRefused.{ModuleRefused}
 use Rattle.poke_tool.specs.declared.module_fault.ModuleRefused.TheVariants.{TooLong, Elf, Table}
 use Rattle.poke_tool.specs.Plan.{Holds}
@@ -19,23 +19,9 @@ use Rattle.poke_tool.specs.Plan.{Holds}
 abbrev pub module_limit : ℕ
 module_limit = 67108864
 
--- the section in which a table stands
-abbrev pub table_name : TableKind → List ℕ
-table_name Jump = codes "__jump_table"
-table_name Call = codes ".static_call_sites"
-table_name Trace = codes "__mcount_loc"
-
--- the first section of that name
-abbrev pub table_in : List SectionRecord → TableKind → Option SectionRecord
-table_in sections kind = find (λ (s : SectionRecord). bytes_eq s.name (table_name kind)) sections
-
+-- the table of a kind in a file
 abbrev pub table_of : List ℕ → TableKind → Option SectionRecord
 table_of file kind = table_in (sections_of file) kind
-
--- the bytes of a table; a missing one is empty
-abbrev pub content_of : Option SectionRecord → List ℕ
-content_of None = []
-content_of (Some s) = s.content
 
 -- a table isn't whole entries
 abbrev pub IsBadTable : List ℕ → TableKind → Type 0

@@ -1,5 +1,8 @@
 //! The commands, as the words after the program's name give them.
-ghost use Rattle.std.specs.Prelude.{◌≡◌, option_map};
+ghost use Rattle.std.specs.Prelude.{◌≡◌, IfSome, option_map};
+ghost use Rattle.poke_tool.specs.Command.{block_count};
+
+use poke_base::read_dec;
 
 /// A command, with the words that it was given.
 #[derive(Clone, Copy, Debug, PartialEq, Eq)]
@@ -8,19 +11,23 @@ pub enum Command<'a> {
     Plan { file: &'a str },
     /// Prints the entries of a module's tables.
     Show { module: &'a str },
+    /// Writes a module with so many blocks, 10 to 1,000.
+    Make { blocks: u32, module: &'a str },
 }
 
 impl<'a> Command<'a> {
-    ghost use Rattle.poke_tool.specs.Command.{row, row_of, plan_row, show_row, words_of};
+    ghost use Rattle.poke_tool.specs.Command.{IsInRange, make_row, plan_row, row, row_of, show_row, words_of};
 
     /// The command that the words are. `None` exactly for all other words.
     pub fn read(words: &'a [String]) -> Option<Command<'a>>
-        ensures { option_map row result ≡ row_of (words_of words.now) }
+        ensures row { option_map row result ≡ row_of (words_of words.now) }
+        ensures in_range { IfSome result IsInRange }
     {
         let (name, rest) = words.split_first()?;
         match name.as_str() {
             "plan" => Command::plan(rest),
             "show" => Command::show(rest),
+            "make" => Command::make(rest),
             _ => None,
         }
     }
@@ -47,5 +54,34 @@ impl<'a> Command<'a> {
             }),
             _ => None,
         }
+    }
+
+    /// `make N FILE`
+    fn make(rest: &'a [String]) -> Option<Command<'a>>
+        ensures row { option_map row result ≡ make_row (words_of rest.now) }
+        ensures in_range { IfSome result IsInRange }
+    {
+        match rest {
+            [n, module] => {
+                let blocks = block_count(n)?;
+                Some(Command::Make {
+                    blocks,
+                    module: module.as_str(),
+                })
+            }
+            _ => None,
+        }
+    }
+}
+
+/// A number of blocks, 10 to 1,000. `None` exactly for all other words.
+fn block_count(word: &str) -> Option<u32>
+    ensures { result ≡ block_count word.now }
+{
+    let n = read_dec(word.as_bytes())?;
+    if (10..=1_000).contains(&n) {
+        Some(n as u32)
+    } else {
+        None
     }
 }

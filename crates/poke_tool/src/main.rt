@@ -1,10 +1,18 @@
 //! `textpoke`: shows and proves how x86-64 instructions are changed while processors run them.
 #![tactic(auto)]
 
+#[cfg(test)]
+mod asked_host;
 mod command;
 mod entry_lines;
 mod fault;
+pub mod laws;
+mod make;
+#[cfg(test)]
+mod make_tests;
 mod module_fault;
+#[cfg(test)]
+mod modules;
 mod plan;
 mod plan_line;
 mod print_table;
@@ -15,6 +23,8 @@ mod tables;
 #[cfg(test)]
 mod tests;
 mod top;
+#[cfg(test)]
+mod written_tests;
 
 use crate::fault::Fault;
 use crate::top::textpoke;

@@ -13,7 +13,7 @@ const NOP_TO_JMP_POKE: &[u8] =
     b"w 401000 cc\nsync\nw 401001 fb\nw 401002 0f\nw 401003 00\nw 401004 00\nsync\nw 401000 e9\nsync\n";
 
 /// The words of a command.
-fn words(alloc: Global, list: &[&str]) -> Result<Vec<String>, Fail> {
+pub fn words(alloc: Global, list: &[&str]) -> Result<Vec<String>, Fail> {
     let mut words = Vec::new(alloc);
     for word in list {
         words.push(String::from_str(alloc, word)?)?;

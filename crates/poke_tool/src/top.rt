@@ -1,12 +1,13 @@
 //! The whole program as one call.
 ghost use Rattle.std.specs.Prelude.{◌≡◌, ◌≢◌, ◌↔◌, ℕ, List, None, Some};
 ghost use Rattle.poke_base.specs.Host.{Rose};
-ghost use Rattle.poke_tool.specs.Command.{Row, row, row_of, words_of};
+ghost use Rattle.poke_tool.specs.Command.{Row, Make, row, row_of, words_of};
 ghost use Rattle.poke_tool.specs.Runs.{DoesRow, LeavesAll, Runs};
-ghost use Rattle.poke_tool.specs.Endings.{AsksInOrder, EndsAloud, EndsSaying};
+ghost use Rattle.poke_tool.specs.Endings.{AsksInOrder, EndsAloud, EndsMaking, EndsSaying};
 
 use crate::command::Command;
 use crate::fault::Fault;
+use crate::make::make;
 use crate::plan::plan;
 use crate::show::show;
 use poke_base::Host;
@@ -15,9 +16,10 @@ use std::alloc::Global;
 /// Does the command that the words are, and answers the status with which the program ends. The
 /// words don't have the program's name.
 ///
-/// 0: done. 1: the words are no command. 2: the module was refused. 3: the plan file was refused. 5: a file wasn't read.
-/// 6: a write failed. 7: want of memory, which comes before anything is printed. At every status but
-/// 0 the reason is complained in one line; a complaint that fails leaves the status as it is.
+/// 0: done. 1: the words are no command. 2: the module was refused. 3: the plan file was refused.
+/// 5: a file wasn't read. 6: a write failed. 7: want of memory, which comes before anything is
+/// printed or made. At every status but 0 the reason is complained in one line; a complaint that
+/// fails leaves the status as it is.
 pub fn textpoke<H: Host>(alloc: Global, words: &[String], host: &mut H) -> u8
     ensures runs { Runs (words_of words.now) (H.outside host.old) (H.outside host.new) result }
 
@@ -29,6 +31,7 @@ pub fn textpoke<H: Host>(alloc: Global, words: &[String], host: &mut H) -> u8
     ensures ends_aloud { EndsAloud (H.outside host.old) (H.outside host.new) result }
 
     ensures says { (row : Row) → row_of (words_of words.now) ≡ Some row → EndsSaying row (H.outside host.old) (H.outside host.new) result }
+    ensures makes { (n : ℕ) (name : List ℕ) → row_of (words_of words.now) ≡ Some (Make n name) → EndsMaking n name (H.outside host.old) (H.outside host.new) result }
 {
     match do_command(alloc, words, host) {
         Ok(()) => 0,
@@ -48,5 +51,6 @@ fn do_command<H: Host>(alloc: Global, words: &[String], host: &mut H) -> Result<
         None => Err(Fault::Words),
         Some(Command::Plan { file }) => plan(alloc, file, host),
         Some(Command::Show { module }) => show(alloc, module, host),
+        Some(Command::Make { blocks, module }) => make(alloc, blocks, module, host),
     }
 }

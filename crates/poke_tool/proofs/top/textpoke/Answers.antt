@@ -3,7 +3,7 @@ use Rattle.poke_base.specs.declared.host.WriteFail.{WriteFail}
 use Rattle.poke_base.specs.Host.{Complains}
 use Rattle.poke_tool.specs.Command.{Row, row_of, words_of}
 use Rattle.poke_tool.specs.Runs.{RunsRow}
-use Rattle.poke_tool.proofs.Endings.{asks_in_order, bad_words, ends_aloud, leaves_all, ends_saying, read_fault, write_fault}
+use Rattle.poke_tool.proofs.Endings.{asks_in_order, bad_words, ends_aloud, ends_making, ends_saying, leaves_all, read_fault, write_fault}
 use Rattle.poke_tool.proofs.top.textpoke.Goals as goal
 
 -- the program ends with a fault that was complained
@@ -48,5 +48,16 @@ returns-in-Err-clause-asks_in_order g c = asks_in_order (row_of (words_of c.args
 pub returns-in-Ok-clause-says : goal.returns-in-Ok-clause-says
 returns-in-Ok-clause-says g c row is =
     ends_saying row _ _ _
+    (subst (λ (r : Option Row). RunsRow r (g.H.Host.outside c.args.host.now) (g.H.Host.outside c.do_command.new.host) 0) is
+    (record { middle = g.H.Host.outside c.do_command.new.host; result = Ok c.in-Ok.field-0; does = c.in-Ok.ensures; ends = (refl, refl) }))
+
+pub returns-in-Err-clause-makes : goal.returns-in-Err-clause-makes
+returns-in-Err-clause-makes g c n name is =
+    ends_making n name _ _ _
+    (subst (λ (r : Option Row). RunsRow r (g.H.Host.outside c.args.host.now) (g.H.Host.outside c.complain.new.self) c.status.result) is (returns-in-Err-clause-runs g c))
+
+pub returns-in-Ok-clause-makes : goal.returns-in-Ok-clause-makes
+returns-in-Ok-clause-makes g c n name is =
+    ends_making n name _ _ _
     (subst (λ (r : Option Row). RunsRow r (g.H.Host.outside c.args.host.now) (g.H.Host.outside c.do_command.new.host) 0) is
     (record { middle = g.H.Host.outside c.do_command.new.host; result = Ok c.in-Ok.field-0; does = c.in-Ok.ensures; ends = (refl, refl) }))

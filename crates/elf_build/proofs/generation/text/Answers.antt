@@ -1,0 +1,19 @@
+use Rattle.std.proofs.Common.{◌≡◌, ◌++◌, ◌+◌, ◌-◌, ◌∙◌, ℕ, List, ap, subst, sym, refl, arith}
+use Rattle.elf_build.specs.declared.generation.Block.{Block}
+use Rattle.elf_build.specs.Generated.{block_bytes, block_len, block_of, text_from, text_of}
+use Rattle.elf_build.proofs.Blocks.{block-more}
+use Rattle.elf_build.proofs.Generates.{block_len-le}
+use Rattle.elf_build.proofs.generation.text.Goals as goal
+
+pub loop-number-preserved : goal.loop-number-preserved
+loop-number-preserved c =
+    let i = c.loop-number.number in
+    let at = c.loop-number.at in
+    let size : c.len-at.result ≡ block_len (block_of i) = c.len-at.ensures ∙ ap block_len c.of-block.ensures in
+    let most = block_len-le (block_of i) in
+    let low = c.loop-number.invariant.1 in (
+      subst (λ (len : ℕ). c.add-in-loop-number.new.out.items ++ text_from (c.args.n - (i + 1)) (i + 1) (at + len) ≡ text_of c.args.n) (sym size)
+          (block-more text_from (λ (i at : ℕ). block_bytes (block_of i) at) (λ left i at. refl) c.args.n i at c.loop-number.out.items c.add-in-loop-number.new.out.items _ c.loop-number-test.true c.loop-number.invariant.0
+          (c.in_ok-add-2.ensures ∙ ap (λ (xs : List ℕ). c.loop-number.out.items ++ xs) (c.deref.ensures.0 ∙ c.bytes.ensures ∙ ap (λ (block : Block). block_bytes block at) c.of-block.ensures))),
+      omega arith,
+    )

@@ -1,0 +1,10 @@
+pub mod Operands
+pub mod Displacements
+pub mod Spelt
+pub mod Listed
+pub mod Exact
+pub mod Table
+pub mod Answered
+pub mod Opcodes
+pub mod Lawful
+pub mod Examples
