@@ -28,114 +28,81 @@ fn shown(alloc: Global, small: &Small<'_>, text: &[u8]) -> Result<(usize, u8, bo
 }
 
 #[test]
-fn modules_with_one_site_are_written(rt: HostRuntime) -> Result<(), Fail> {
-    let call = [PlanSite::Call {
-        at: F,
-        key: 0,
-        tail: false,
-    }];
-    let tail = [PlanSite::Call {
-        at: F + 8,
-        key: 0,
-        tail: true,
-    }];
-    let one_switch = [jump(F, F + 14, 0)];
-    let loop_switch = [jump(F + 5, F + 15, 0)];
-    let k: [(&[u8], KeyStart); 1] = [(b"k", KeyStart::Count(0))];
-    let ck: [(&[u8], KeyStart); 1] = [(b"ck", KeyStart::Func(F + 8))];
-    let tk: [(&[u8], KeyStart); 1] = [(b"tk", KeyStart::Func(F + 13))];
-    let leaf_brk: [(&[u8], u64); 3] = [(b"f", F), (b"leaf", F + 12), (b"brk", F + 13)];
-    let only_f: [(&[u8], u64); 1] = [(b"f", F)];
-    let a_b: [(&[u8], u64); 3] = [(b"f", F), (b"a", F + 8), (b"b", F + 14)];
-    let a: [(&[u8], u64); 2] = [(b"f", F), (b"a", F + 13)];
-    let rows: [(Small<'_>, usize, &[u8]); 4] = [
-        (
-            Small {
-                text: b"\x0f\x1fD\0\0\xb8\x01\0\0\0\xe6\x10\xc3\xcc\xb8\x02\0\0\0\xe6\x10\xc3",
-                sites: &one_switch,
-                keys: &k,
-                functions: &leaf_brk,
-            },
-            944,
-            b"jump 401000 40100e 451000 unlikely\n",
-        ),
-        (
-            Small {
-                text: b"\xb9\x03\0\0\0\x0f\x1fD\0\0\xff\xc9u\xf7\xc3\xff\xc0\xeb\xf7",
-                sites: &loop_switch,
-                keys: &k,
-                functions: &only_f,
-            },
-            896,
-            b"jump 401005 40100f 451000 unlikely\n",
-        ),
-        (
-            Small {
-                text: b"\xe8\x03\0\0\0\xe6\x10\xc3\xb8\x01\0\0\0\xc3\xb8\x02\0\0\0\xc3",
-                sites: &call,
-                keys: &ck,
-                functions: &a_b,
-            },
-            944,
-            b"call 401000 451000\n",
-        ),
-        (
-            Small {
-                text: b"\xe8\x03\0\0\0\xe6\x10\xf4\xe9\0\0\0\0\xb8\x01\0\0\0\xc3",
-                sites: &tail,
-                keys: &tk,
-                functions: &a,
-            },
-            912,
-            b"tail 401008 451000\n",
-        ),
-    ];
-    for (small, size, text) in rows {
-        assert_eq!(rt; shown(rt.alloc(), &small, text)?, (size, 0, true));
-    }
+fn switches_are_written(rt: HostRuntime) -> Result<(), Fail> {
+    let branch = Small {
+        text: b"\x0f\x1fD\0\0\xb8\x01\0\0\0\xe6\x10\xc3\xcc\xb8\x02\0\0\0\xe6\x10\xc3",
+        sites: &[jump(F, F + 14, 0)],
+        keys: &[(b"k", KeyStart::Count(0))],
+        functions: &[(b"f", F), (b"leaf", F + 12), (b"brk", F + 13)],
+    };
+    let text = b"jump 401000 40100e 451000 unlikely\n";
+    assert_eq!(rt; shown(rt.alloc(), &branch, text)?, (944, 0, true));
+    let in_a_loop = Small {
+        text: b"\xb9\x03\0\0\0\x0f\x1fD\0\0\xff\xc9u\xf7\xc3\xff\xc0\xeb\xf7",
+        sites: &[jump(F + 5, F + 15, 0)],
+        keys: &[(b"k", KeyStart::Count(0))],
+        functions: &[(b"f", F)],
+    };
+    let text = b"jump 401005 40100f 451000 unlikely\n";
+    assert_eq!(rt; shown(rt.alloc(), &in_a_loop, text)?, (896, 0, true));
     Ok(())
 }
 
 #[test]
-fn modules_with_two_sites_are_written(rt: HostRuntime) -> Result<(), Fail> {
-    let one_key = [
-        jump(F, F + 9, 0),
-        PlanSite::Jump {
-            at: F + 2,
-            target: F + 9,
+fn calls_are_written(rt: HostRuntime) -> Result<(), Fail> {
+    let call = Small {
+        text: b"\xe8\x03\0\0\0\xe6\x10\xc3\xb8\x01\0\0\0\xc3\xb8\x02\0\0\0\xc3",
+        sites: &[PlanSite::Call {
+            at: F,
             key: 0,
-            likely: true,
-        },
-    ];
-    let two_keys = [jump(F, F + 5, 0), jump(F + 5, F + 7, 1)];
-    let j: [(&[u8], KeyStart); 1] = [(b"j", KeyStart::Count(0))];
-    let k_k2: [(&[u8], KeyStart); 2] = [(b"k", KeyStart::Count(0)), (b"k2", KeyStart::Count(0))];
-    let f: [(&[u8], u64); 1] = [(b"f", F)];
-    let rows: [(Small<'_>, usize, &[u8]); 2] = [
-        (
-            Small {
-                text: b"f\x90\x0f\x1fD\0\0\xff\xc0\xc3",
-                sites: &one_key,
-                keys: &j,
-                functions: &f,
+            tail: false,
+        }],
+        keys: &[(b"ck", KeyStart::Func(F + 8))],
+        functions: &[(b"f", F), (b"a", F + 8), (b"b", F + 14)],
+    };
+    let text = b"call 401000 451000\n";
+    assert_eq!(rt; shown(rt.alloc(), &call, text)?, (944, 0, true));
+    let tail = Small {
+        text: b"\xe8\x03\0\0\0\xe6\x10\xf4\xe9\0\0\0\0\xb8\x01\0\0\0\xc3",
+        sites: &[PlanSite::Call {
+            at: F + 8,
+            key: 0,
+            tail: true,
+        }],
+        keys: &[(b"tk", KeyStart::Func(F + 13))],
+        functions: &[(b"f", F), (b"a", F + 13)],
+    };
+    let text = b"tail 401008 451000\n";
+    assert_eq!(rt; shown(rt.alloc(), &tail, text)?, (912, 0, true));
+    Ok(())
+}
+
+#[test]
+fn two_switches_are_written(rt: HostRuntime) -> Result<(), Fail> {
+    let of_one_key = Small {
+        text: b"f\x90\x0f\x1fD\0\0\xff\xc0\xc3",
+        sites: &[
+            jump(F, F + 9, 0),
+            PlanSite::Jump {
+                at: F + 2,
+                target: F + 9,
+                key: 0,
+                likely: true,
             },
-            896,
-            b"jump 401000 401009 451000 unlikely\njump 401002 401009 451000 likely\n",
-        ),
-        (
-            Small {
-                text: b"\xb8\x01\0\0\0f\x90\xc3",
-                sites: &two_keys,
-                keys: &k_k2,
-                functions: &f,
-            },
-            928,
-            b"jump 401000 401005 451000 unlikely\njump 401005 401007 451010 unlikely\n",
-        ),
-    ];
-    for (small, size, text) in rows {
-        assert_eq!(rt; shown(rt.alloc(), &small, text)?, (size, 0, true));
-    }
+        ],
+        keys: &[(b"j", KeyStart::Count(0))],
+        functions: &[(b"f", F)],
+    };
+    let text = b"jump 401000 401009 451000 unlikely\njump 401002 401009 451000 likely\n";
+    assert_eq!(rt; shown(rt.alloc(), &of_one_key, text)?, (896, 0, true));
+    let of_two_keys = Small {
+        text: b"\xb8\x01\0\0\0f\x90\xc3",
+        sites: &[jump(F, F + 5, 0), jump(F + 5, F + 7, 1)],
+        keys: &[(b"k", KeyStart::Count(0)), (b"k2", KeyStart::Count(0))],
+        functions: &[(b"f", F)],
+    };
+    let text = b"jump 401000 401005 451000 unlikely\njump 401005 401007 451010 unlikely\n";
+    assert_eq!(rt; shown(rt.alloc(), &of_two_keys, text)?, (928, 0, true));
     Ok(())
 }
 
