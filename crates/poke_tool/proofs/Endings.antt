@@ -11,7 +11,11 @@ use Rattle.elf_module.specs.declared.refused.ElfRefused.TheVariants.{Short, Magi
 use Rattle.elf_module.specs.Refusals.{order}
 use Rattle.site_tables.specs.declared.entries.TableKind.TheVariants.{Jump, Call, Trace}
 use Rattle.poke_tool.specs.declared.module_fault.ModuleRefused.{ModuleRefused}
-use Rattle.poke_tool.specs.declared.module_fault.ModuleRefused.TheVariants.{TooLong as LongModule, Elf, Table}
+use Rattle.poke_tool.specs.declared.module_fault.ModuleRefused.TheVariants.{TooLong as LongModule, Elf, Image}
+use Rattle.module_image.specs.declared.refused.Refused.{Refused}
+use Rattle.module_image.specs.declared.refused.Refused.TheVariants.{TextCount, TextSize, Table, SiteCount, SiteOutside, SiteLength, SiteOverlap, KeyOutside, KeyState, NoReach as OutOfReach, TracerMissing, Undecoded, BadTarget, EndFalls, NoMemory}
+use Rattle.poke_tool.specs.Check.{ModuleChecks, elf_of}
+use Rattle.module_image.specs.Refusals.{IsRefusal as IsImageRefusal, Passes as ImagePasses}
 use Rattle.poke_tool.specs.Module.{ModuleShows}
 use Rattle.poke_tool.specs.Command as command
 use Rattle.poke_tool.specs.Command.{Row, row_of, file_words}
@@ -60,6 +64,7 @@ complained_fault row old middle new fault status keeps (is, (sent, complains)) =
 keeps_of : (row : Row) (old middle : Outside) (result : Result (Unit {0}) Fault) → Does row old middle result → Keeps row old middle result
 keeps_of (command.Plan file) old middle result does = does.keeps
 keeps_of (command.Show file) old middle result does = does.keeps
+keeps_of (command.Check file) old middle result does = does.keeps
 keeps_of (command.Make n file) old middle result does = does.keeps
 
 -- no command ends with status 1
@@ -230,9 +235,48 @@ not_both_shown : (file text : List ℕ) (why : ModuleRefused) → ModuleShows fi
 not_both_shown file text LongModule shows long = let fits = shows.0 in omega arith
 not_both_shown file text (Elf why) shows refused =
     shows.1.none why (order_below why) refused.1.holds
-not_both_shown file text (Table Jump n) shows refused = shows.2 refused.2
-not_both_shown file text (Table Call n) shows refused = shows.3 refused.3
-not_both_shown file text (Table Trace n) shows refused = shows.4 refused.4
+not_both_shown file text (Image (Table Jump n)) shows refused = shows.2 refused.2
+not_both_shown file text (Image (Table Call n)) shows refused = shows.3 refused.2.1
+not_both_shown file text (Image (Table Trace n)) shows refused = shows.4 refused.2.2
+not_both_shown file text (Image (TextCount n)) shows refused = refused
+not_both_shown file text (Image (TextSize n)) shows refused = refused
+not_both_shown file text (Image (SiteCount n)) shows refused = refused
+not_both_shown file text (Image (SiteOutside at)) shows refused = refused
+not_both_shown file text (Image (SiteLength at)) shows refused = refused
+not_both_shown file text (Image (SiteOverlap at)) shows refused = refused
+not_both_shown file text (Image (KeyOutside at)) shows refused = refused
+not_both_shown file text (Image (KeyState at)) shows refused = refused
+not_both_shown file text (Image (OutOfReach at)) shows refused = refused
+not_both_shown file text (Image (TracerMissing at)) shows refused = refused
+not_both_shown file text (Image (Undecoded at)) shows refused = refused
+not_both_shown file text (Image (BadTarget from to)) shows refused = refused
+not_both_shown file text (Image (EndFalls at)) shows refused = refused
+not_both_shown file text (Image NoMemory) shows refused = refused
+
+-- a module that no condition refuses isn't refused
+not_refused : (file : List ℕ) (why : Refused) → ImagePasses (elf_of file) 15 → IsImageRefusal (elf_of file) why → ⊥
+not_refused file (TextCount n) passes refused = passes.none (TextCount n) (lit< tt) refused.holds
+not_refused file (TextSize n) passes refused = passes.none (TextSize n) (lit< tt) refused.holds
+not_refused file (Table kind n) passes refused = passes.none (Table kind n) (lit< tt) refused.holds
+not_refused file (SiteCount n) passes refused = passes.none (SiteCount n) (lit< tt) refused.holds
+not_refused file (SiteOutside at) passes refused = passes.none (SiteOutside at) (lit< tt) refused.holds
+not_refused file (SiteLength at) passes refused = passes.none (SiteLength at) (lit< tt) refused.holds
+not_refused file (SiteOverlap at) passes refused = passes.none (SiteOverlap at) (lit< tt) refused.holds
+not_refused file (KeyOutside at) passes refused = passes.none (KeyOutside at) (lit< tt) refused.holds
+not_refused file (KeyState at) passes refused = passes.none (KeyState at) (lit< tt) refused.holds
+not_refused file (OutOfReach at) passes refused = passes.none (OutOfReach at) (lit< tt) refused.holds
+not_refused file (TracerMissing at) passes refused = passes.none (TracerMissing at) (lit< tt) refused.holds
+not_refused file (Undecoded at) passes refused = passes.none (Undecoded at) (lit< tt) refused.holds
+not_refused file (BadTarget from to) passes refused = passes.none (BadTarget from to) (lit< tt) refused.holds
+not_refused file (EndFalls at) passes refused = passes.none (EndFalls at) (lit< tt) refused.holds
+not_refused file NoMemory passes refused = refused.holds
+
+-- no module file is both accepted and refused
+not_both_checked : (file text : List ℕ) (why : ModuleRefused) → ModuleChecks file (Ok text) → ModuleChecks file (Err why) → ⊥
+not_both_checked file text LongModule checks long = let fits = checks.0 in omega arith
+not_both_checked file text (Elf why) checks refused =
+    checks.1.none why (order_below why) refused.1.holds
+not_both_checked file text (Image why) checks refused = not_refused file why checks.2 refused.2
 
 -- the files of a command, where they are told, don't both say a text and a refusal
 says_apart : (row : Row) (outside : Outside) (text : List ℕ) (why : Fault) → IsSome outside.files → Says row outside (Ok text) → Says row outside (Err why) → ⊥
@@ -252,12 +296,21 @@ says_apart (command.Show file) outside text (Plan why) told says refused = refus
 says_apart (command.Show file) outside text Read told says refused = refused
 says_apart (command.Show file) outside text Write told says refused = refused
 says_apart (command.Show file) outside text Memory told says refused = refused
+says_apart (command.Check file) outside text (Module why) told says refused =
+    not_both_checked says.file text why says.says
+    (subst (λ (t : List ℕ). ModuleChecks t (Err why)) (one_text outside file refused.file says.file told refused.holds says.holds) refused.says)
+says_apart (command.Check file) outside text Words told says refused = refused
+says_apart (command.Check file) outside text (Plan why) told says refused = refused
+says_apart (command.Check file) outside text Read told says refused = refused
+says_apart (command.Check file) outside text Write told says refused = refused
+says_apart (command.Check file) outside text Memory told says refused = refused
 says_apart (command.Make n file) outside text why told says refused = refused
 
 -- the status of what a command's files are refused for; `make` reads none
 refusal_status : Row → ℕ
 refusal_status (command.Plan file) = 3
 refusal_status (command.Show file) = 2
+refusal_status (command.Check file) = 2
 refusal_status (command.Make n file) = 0
 
 -- each of its refusals has that status
@@ -275,6 +328,12 @@ says_status (command.Show file) outside (Plan why) refused = absurd refused
 says_status (command.Show file) outside Read refused = absurd refused
 says_status (command.Show file) outside Write refused = absurd refused
 says_status (command.Show file) outside Memory refused = absurd refused
+says_status (command.Check file) outside (Module why) refused = refl
+says_status (command.Check file) outside Words refused = absurd refused
+says_status (command.Check file) outside (Plan why) refused = absurd refused
+says_status (command.Check file) outside Read refused = absurd refused
+says_status (command.Check file) outside Write refused = absurd refused
+says_status (command.Check file) outside Memory refused = absurd refused
 says_status (command.Make n file) outside why refused = absurd refused
 
 -- what the files said in the middle they say at the end
@@ -297,6 +356,15 @@ says_later (command.Show file) middle new (Err (Plan why)) tells says = says
 says_later (command.Show file) middle new (Err Read) tells says = says
 says_later (command.Show file) middle new (Err Write) tells says = says
 says_later (command.Show file) middle new (Err Memory) tells says = says
+says_later (command.Check file) middle new (Ok text) tells says =
+    record { file = says.file; holds = λ files e. says.holds files (tells.told files e); says = says.says }
+says_later (command.Check file) middle new (Err (Module why)) tells says =
+    record { file = says.file; holds = λ files e. says.holds files (tells.told files e); says = says.says }
+says_later (command.Check file) middle new (Err Words) tells says = says
+says_later (command.Check file) middle new (Err (Plan why)) tells says = says
+says_later (command.Check file) middle new (Err Read) tells says = says
+says_later (command.Check file) middle new (Err Write) tells says = says
+says_later (command.Check file) middle new (Err Memory) tells says = says
 says_later (command.Make n file) middle new said tells says = says
 
 -- where a command's files are refused, it ends with the status of that
@@ -392,6 +460,7 @@ make_prints n name old middle (Err Memory) does = tt
 prints_of : (row : Row) (old middle : Outside) (result : Result (Unit {0}) Fault) → Does row old middle result → PrintsSaid row old middle result
 prints_of (command.Plan file) old middle result does = does.prints
 prints_of (command.Show file) old middle result does = does.prints
+prints_of (command.Check file) old middle result does = does.prints
 prints_of (command.Make n file) old middle result does = make_prints n file old middle result does
 
 -- the statuses of a command

@@ -16,3 +16,5 @@ pub mod WrittenKeyBytes
 pub mod WrittenPassing
 pub mod WrittenReadBack
 pub mod MakeRuns
+pub mod ItemLines
+pub mod CheckRuns

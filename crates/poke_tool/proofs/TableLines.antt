@@ -1,18 +1,18 @@
 -- The lines of a table are printed entry by entry.
-use Rattle.std.proofs.Common.{◌≡◌, ◌≤◌, ◌<◌, ◌+◌, ◌-◌, ◌*◌, ◌/◌, ℕ, zero, suc, List, [], ◌∷◌, ◌++◌, length, Ok, Err, Option, Some, option_map, sym, ap, ◌∙◌, subst, arith, append-nil}
+use Rattle.std.proofs.Common.{◌≡◌, ◌<◌, ◌+◌, ◌-◌, ◌*◌, ℕ, zero, suc, List, [], ◌∷◌, ◌++◌, Ok, Err, Option, Some, sym, ap, ◌∙◌, subst, arith, append-nil}
 use Rattle.std.specs.List.{flat_map, range_with_len}
 use Rattle.std.proofs.lemmas.Grind.{flat_map-append}
 use Rattle.poke_base.specs.declared.host.WriteFail.{WriteFail}
 use Rattle.poke_base.specs.Host.{Outside, Prints}
 use Rattle.poke_base.proofs.Outsides.{Prints-more, Prints-part}
-use Rattle.elf_module.specs.Elf.{SectionRecord, section_of}
+use Rattle.elf_module.specs.Elf.{SectionRecord}
 use Rattle.elf_module.specs.declared.records.Section.{Section}
 use Rattle.site_tables.specs.declared.entries.TableKind.{TableKind}
-use Rattle.site_tables.specs.declared.entries.TableKind.TheVariants.{Jump, Call, Trace}
 use Rattle.site_tables.specs.Entry.{entry_size}
-use Rattle.poke_tool.specs.declared.tables.Table.{Table}
-use Rattle.poke_tool.specs.Module.{content_of, entry_line, table_text}
-use Rattle.poke_tool.specs.Tables.{IsWhole, section_in}
+use Rattle.site_tables.specs.declared.tables.Table.{Table}
+use Rattle.site_tables.specs.Found.{IsWhole, section_in}
+use Rattle.site_tables.proofs.Wholes.{section_entries, section_there}
+use Rattle.poke_tool.specs.Module.{entry_line, table_text}
 
 -- numbers counted up to a number and on from there
 range-append : (a m n : ℕ) → range_with_len a (m + n) ≡ range_with_len a m ++ range_with_len (a + m) n
@@ -70,29 +70,8 @@ line_failed line n i text why old middle new below before is prints =
     (ap (λ (xs : List ℕ). (flat_map line (range_with_len 0 i) ++ xs) ++ flat_map line (range_with_len (i + 1) (n - (i + 1)))) is ∙ lines-split line n i below)
     (Prints-part old middle new (flat_map line (range_with_len 0 i)) text (flat_map line (range_with_len (i + 1) (n - (i + 1)))) tt why before prints)
 
--- how many entries whole entries are
-pub whole_entries : (kind : TableKind) (bytes count : ℕ) → bytes ≡ count * entry_size kind → bytes / entry_size kind ≡ count
-whole_entries Jump bytes count whole = omega arith
-whole_entries Call bytes count whole = omega arith
-whole_entries Trace bytes count whole = omega arith
-
 -- the lines of a table are those of all its entries
 pub table_text-whole : (kind : TableKind) (table : Table) (section : Section) → table.section ≡ Some section → IsWhole kind table → flat_map (λ k. entry_line kind section.addr section.content.now (entry_size kind * k)) (range_with_len 0 table.count) ≡ table_text kind (section_in table)
 table_text-whole kind table section is whole =
-    let there : section_in table ≡ Some (section_of section) = ap (λ (o : Option Section). option_map section_of o) is in
-    let bytes : length section.content.now ≡ table.count * entry_size kind = sym (ap (λ (o : Option SectionRecord). length (content_of o)) there) ∙ whole in
-    let entries : length section.content.now / entry_size kind ≡ table.count = whole_entries kind (length section.content.now) table.count bytes in
-    ap (λ (n : ℕ). flat_map (λ k. entry_line kind section.addr section.content.now (entry_size kind * k)) (range_with_len 0 n)) (sym entries)
-    ∙ ap (λ (o : Option SectionRecord). table_text kind o) (sym there)
-
--- the entry before the end of a table lies in it
-pub entry_inside : (kind : TableKind) (table : Table) (section : Section) (i : ℕ) → table.section ≡ Some section → IsWhole kind table → i < table.count → entry_size kind * (i + 1) ≤ length section.content.now
-entry_inside kind table section i is whole below =
-    let there : section_in table ≡ Some (section_of section) = ap (λ (o : Option Section). option_map section_of o) is in
-    let bytes : length section.content.now ≡ table.count * entry_size kind = sym (ap (λ (o : Option SectionRecord). length (content_of o)) there) ∙ whole in
-    inside kind (length section.content.now) table.count i bytes below
-  where
-    inside : (kind : TableKind) (bytes count i : ℕ) → bytes ≡ count * entry_size kind → i < count → entry_size kind * (i + 1) ≤ bytes
-    inside Jump bytes count i whole below = omega arith
-    inside Call bytes count i whole below = omega arith
-    inside Trace bytes count i whole below = omega arith
+    ap (λ (n : ℕ). flat_map (λ k. entry_line kind section.addr section.content.now (entry_size kind * k)) (range_with_len 0 n)) (sym (section_entries kind table section is whole))
+    ∙ ap (λ (o : Option SectionRecord). table_text kind o) (sym (section_there table section is))

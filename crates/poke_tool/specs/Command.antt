@@ -6,18 +6,20 @@ use Rattle.poke_base.specs.declared.host.AskedBy.{AskedBy}
 use Rattle.poke_base.specs.declared.host.AskedBy.TheVariants.{Read, Make as MakeFile}
 use Rattle.poke_base.specs.Number.{dec_number}
 use Rattle.poke_tool.specs.declared.command.Command.{Command}
-use Rattle.poke_tool.specs.declared.command.Command.TheVariants.{Plan as WithPlan, Show as WithShow, Make as WithMake}
+use Rattle.poke_tool.specs.declared.command.Command.TheVariants.{Plan as WithPlan, Show as WithShow, Check as WithCheck, Make as WithMake}
 
 -- a command with the names of its files
 pub data Row : Type 0 where
   Plan : List ℕ → Row
   Show : List ℕ → Row
+  Check : List ℕ → Row
   Make : ℕ → List ℕ → Row
 
 -- the command that the program read
 abbrev pub row : Command → Row
 row (WithPlan file) = Plan file.now
 row (WithShow module_file) = Show module_file.now
+row (WithCheck module_file) = Check module_file.now
 row (WithMake blocks module_file) = Make blocks module_file.now
 
 -- the words after the program's name
@@ -35,6 +37,12 @@ abbrev pub show_row : List (List ℕ) → Option Row
 show_row [] = None
 show_row (module_file ∷ []) = Some (Show module_file)
 show_row (module_file ∷ more ∷ rest) = None
+
+-- `check MODULE`
+abbrev pub check_row : List (List ℕ) → Option Row
+check_row [] = None
+check_row (module_file ∷ []) = Some (Check module_file)
+check_row (module_file ∷ more ∷ rest) = None
 
 -- a number of blocks, 10 to 1,000
 abbrev pub in_range : Option ℕ → Option ℕ
@@ -57,6 +65,7 @@ row_of [] = None
 row_of (name ∷ rest) =
     if bytes_eq name (codes "plan") then plan_row rest
     else if bytes_eq name (codes "show") then show_row rest
+    else if bytes_eq name (codes "check") then check_row rest
     else if bytes_eq name (codes "make") then make_row rest
     else None
 
@@ -64,10 +73,12 @@ row_of (name ∷ rest) =
 abbrev pub file_words : Row → List (List ℕ × AskedBy)
 file_words (Plan file) = (file, Read) ∷ []
 file_words (Show module_file) = (module_file, Read) ∷ []
+file_words (Check module_file) = (module_file, Read) ∷ []
 file_words (Make n module_file) = (module_file, MakeFile) ∷ []
 
 -- the numbers of a command are in their ranges
 abbrev pub IsInRange : Command → Type 0
 IsInRange (WithPlan file) = ⊤
 IsInRange (WithShow module_file) = ⊤
+IsInRange (WithCheck module_file) = ⊤
 IsInRange (WithMake blocks module_file) = (10 ≤ blocks) × (blocks ≤ 1000)

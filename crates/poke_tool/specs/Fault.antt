@@ -8,7 +8,9 @@ use Rattle.site_tables.specs.declared.entries.TableKind.TheVariants.{Jump, Call,
 use Rattle.poke_tool.specs.declared.plan_line.PlanRefused.{PlanRefused}
 use Rattle.poke_tool.specs.declared.plan_line.PlanRefused.TheVariants.{TooLong, Line, NoReach, Old}
 use Rattle.poke_tool.specs.declared.module_fault.ModuleRefused.{ModuleRefused}
-use Rattle.poke_tool.specs.declared.module_fault.ModuleRefused.TheVariants.{TooLong as LongModule, Elf, Table}
+use Rattle.poke_tool.specs.declared.module_fault.ModuleRefused.TheVariants.{TooLong as LongModule, Elf, Image}
+use Rattle.module_image.specs.declared.refused.Refused.{Refused}
+use Rattle.module_image.specs.declared.refused.Refused.TheVariants.{TextCount, TextSize, Table, SiteCount, SiteOutside, SiteLength, SiteOverlap, KeyOutside, KeyState, NoReach as OutOfReach, TracerMissing, Undecoded, BadTarget, EndFalls, NoMemory}
 use Rattle.poke_tool.specs.declared.fault.Fault.{Fault}
 use Rattle.poke_tool.specs.declared.fault.Fault.TheVariants.{Words, Module, Plan, Read, Write, Memory}
 
@@ -54,11 +56,47 @@ kind_name Jump = codes "jump"
 kind_name Call = codes "call"
 kind_name Trace = codes "trace"
 
+-- the name of why a module isn't accepted, and what says where
+abbrev pub image_name : Refused → List ℕ
+image_name (TextCount n) = codes "TextCount"
+image_name (TextSize n) = codes "TextSize"
+image_name (Table kind n) = codes "Table"
+image_name (SiteCount n) = codes "SiteCount"
+image_name (SiteOutside at) = codes "SiteOutside"
+image_name (SiteLength at) = codes "SiteLength"
+image_name (SiteOverlap at) = codes "SiteOverlap"
+image_name (KeyOutside at) = codes "KeyOutside"
+image_name (KeyState at) = codes "KeyState"
+image_name (OutOfReach at) = codes "NoReach"
+image_name (TracerMissing at) = codes "TracerMissing"
+image_name (Undecoded at) = codes "Undecoded"
+image_name (BadTarget from to) = codes "BadTarget"
+image_name (EndFalls at) = codes "EndFalls"
+image_name NoMemory = codes "NoMemory"
+
+-- the word of a table, or from where something leads, stands before the last number
+abbrev pub image_place : Refused → List ℕ
+image_place (TextCount n) = hexadecimal n
+image_place (TextSize n) = hexadecimal n
+image_place (Table kind n) = kind_name kind ++ codes " " ++ hexadecimal n
+image_place (SiteCount n) = hexadecimal n
+image_place (SiteOutside at) = hexadecimal at
+image_place (SiteLength at) = hexadecimal at
+image_place (SiteOverlap at) = hexadecimal at
+image_place (KeyOutside at) = hexadecimal at
+image_place (KeyState at) = hexadecimal at
+image_place (OutOfReach at) = hexadecimal at
+image_place (TracerMissing at) = hexadecimal at
+image_place (Undecoded at) = hexadecimal at
+image_place (BadTarget from to) = hexadecimal from ++ codes " " ++ hexadecimal to
+image_place (EndFalls at) = hexadecimal at
+image_place NoMemory = []
+
 -- what is wrong with a module: a name and its numbers
 abbrev pub module_reason : ModuleRefused → List ℕ
 module_reason LongModule = codes "TooLong"
 module_reason (Elf why) = elf_name why ++ codes " " ++ hexadecimal (elf_number why)
-module_reason (Table kind n) = codes "Table " ++ kind_name kind ++ codes " " ++ hexadecimal n
+module_reason (Image why) = image_name why ++ codes " " ++ image_place why
 
 abbrev pub name_of : PlanRefused → List ℕ
 name_of TooLong = codes "TooLong"

@@ -1,6 +1,7 @@
 pub mod PlanLine
 pub mod Plan
 pub mod Module
+pub mod Check
 pub mod Command
 pub mod Fault
 pub mod Runs

@@ -1,5 +1,5 @@
 -- What `show` says of a module file, and why one is refused.
-use Rattle.std.specs.Prelude.{◌≡◌, ◌≢◌, ◌≤◌, ◌<◌, ℕ, ◌*◌, ◌/◌, ◌%◌, if◌then◌else◌, List, [], ◌∷◌, ◌++◌, length, codes, Option, Some, None, Result, Ok, Err}
+use Rattle.std.specs.Prelude.{◌≡◌, ◌≤◌, ◌<◌, ℕ, ◌*◌, ◌/◌, if◌then◌else◌, List, [], ◌∷◌, ◌++◌, length, codes, Option, Some, None, Result, Ok, Err}
 use Rattle.std.specs.List.{flat_map, range_with_len}
 use Rattle.poke_base.specs.Host.{Outside}
 use Rattle.poke_base.specs.Number.{hexadecimal}
@@ -10,9 +10,11 @@ use Rattle.site_tables.specs.declared.entries.CallSite.{CallSite}
 use Rattle.site_tables.specs.declared.entries.TableKind.{TableKind}
 use Rattle.site_tables.specs.declared.entries.TableKind.TheVariants.{Jump, Call, Trace}
 use Rattle.site_tables.specs.Entry.{entry_size, jump_in, call_in, trace_in}
-pub use Rattle.site_tables.specs.Tables.{content_of, table_in, table_name}
+use Rattle.site_tables.specs.Found.{IsBadTable, IsFirstBadTable, table_len}
+pub use Rattle.site_tables.specs.Tables.{table_in}
 use Rattle.poke_tool.specs.declared.module_fault.ModuleRefused.{ModuleRefused}
-use Rattle.poke_tool.specs.declared.module_fault.ModuleRefused.TheVariants.{TooLong, Elf, Table}
+use Rattle.poke_tool.specs.declared.module_fault.ModuleRefused.TheVariants.{TooLong, Elf, Image}
+use Rattle.module_image.specs.declared.refused.Refused.TheVariants.{Table}
 use Rattle.poke_tool.specs.Plan.{Holds}
 
 -- how many bytes a module file may have
@@ -22,10 +24,6 @@ module_limit = 67108864
 -- the table of a kind in a file
 abbrev pub table_of : List ℕ → TableKind → Option SectionRecord
 table_of file kind = table_in (sections_of file) kind
-
--- a table isn't whole entries
-abbrev pub IsBadTable : List ℕ → TableKind → Type 0
-IsBadTable file kind = length (content_of (table_of file kind)) % entry_size kind ≢ 0
 
 -- the line of a jump entry
 abbrev pub jump_line : JumpEntry → List ℕ
@@ -63,16 +61,12 @@ shown_text file = table_text Jump (table_of file Jump) ++ table_text Call (table
 abbrev pub ModuleShows : List ℕ → Result (List ℕ) ModuleRefused → Type 0
 ModuleShows file (Err TooLong) = module_limit < length file
 ModuleShows file (Err (Elf why)) = (length file ≤ module_limit) × IsRefusal file why
-ModuleShows file (Err (Table Jump n)) =
-    (length file ≤ module_limit) × Passes file 13 × IsBadTable file Jump × (n ≡ length (content_of (table_of file Jump)))
-ModuleShows file (Err (Table Call n)) =
-    (length file ≤ module_limit) × Passes file 13 × (¬ IsBadTable file Jump) × IsBadTable file Call
-    × (n ≡ length (content_of (table_of file Call)))
-ModuleShows file (Err (Table Trace n)) =
-    (length file ≤ module_limit) × Passes file 13 × (¬ IsBadTable file Jump) × (¬ IsBadTable file Call) × IsBadTable file Trace
-    × (n ≡ length (content_of (table_of file Trace)))
+ModuleShows file (Err (Image (Table kind n))) =
+    (length file ≤ module_limit) × Passes file 13 × IsFirstBadTable (sections_of file) kind × (n ≡ table_len (sections_of file) kind)
+ModuleShows file (Err (Image _)) = ⊥
 ModuleShows file (Ok text) =
-    (length file ≤ module_limit) × Passes file 13 × (¬ IsBadTable file Jump) × (¬ IsBadTable file Call) × (¬ IsBadTable file Trace)
+    (length file ≤ module_limit) × Passes file 13
+    × (¬ IsBadTable (sections_of file) Jump) × (¬ IsBadTable (sections_of file) Call) × (¬ IsBadTable (sections_of file) Trace)
     × (text ≡ shown_text file)
 
 -- the file says this of what is shown

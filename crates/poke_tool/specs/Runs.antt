@@ -14,6 +14,7 @@ use Rattle.poke_tool.specs.Command.{Row, row_of, file_words}
 use Rattle.poke_tool.specs.Fault.{status_of, complaint_of}
 use Rattle.poke_tool.specs.Plan.{SaysPlan, poke_text}
 use Rattle.poke_tool.specs.Module.{SaysShow}
+use Rattle.poke_tool.specs.Check.{SaysCheck}
 
 -- a text was printed
 abbrev pub PrintsText : Outside → Outside → List ℕ → Type 0
@@ -68,6 +69,12 @@ ShowSays file outside (Ok text) = SaysShow outside file (Ok text)
 ShowSays file outside (Err (Module why)) = SaysShow outside file (Err why)
 ShowSays file outside (Err _) = ⊥
 
+-- what the file of `check` says of what is printed: the text and sites of its module, or why it isn't accepted
+abbrev pub CheckSays : List ℕ → Outside → Result (List ℕ) Fault → Type 0
+CheckSays file outside (Ok text) = SaysCheck outside file (Ok text)
+CheckSays file outside (Err (Module why)) = SaysCheck outside file (Err why)
+CheckSays file outside (Err _) = ⊥
+
 -- `make` reads no file and prints nothing
 abbrev pub MakeSays : Result (List ℕ) Fault → Type 0
 MakeSays (Ok text) = text ≡ []
@@ -77,6 +84,7 @@ MakeSays (Err _) = ⊥
 abbrev pub Says : Row → Outside → Result (List ℕ) Fault → Type 0
 Says (command.Plan file) outside said = PlanSays file outside said
 Says (command.Show file) outside said = ShowSays file outside said
+Says (command.Check file) outside said = CheckSays file outside said
 Says (command.Make n file) outside said = MakeSays said
 
 -- what a command that failed has printed of what its files say
@@ -136,6 +144,7 @@ pub record DoesMake (n : ℕ) (name : List ℕ) (old new : Outside) (result : Re
 abbrev pub Does : Row → Outside → Outside → Result (Unit {0}) Fault → Type 0
 Does (command.Plan file) old new result = ShowsFile (command.Plan file) old new result
 Does (command.Show file) old new result = ShowsFile (command.Show file) old new result
+Does (command.Check file) old new result = ShowsFile (command.Check file) old new result
 Does (command.Make n file) old new result = DoesMake n file old new result
 
 -- how the program ends: a fault is complained, and gives the status whether the complaint went out or not

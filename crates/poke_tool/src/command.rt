@@ -11,12 +11,14 @@ pub enum Command<'a> {
     Plan { file: &'a str },
     /// Prints the entries of a module's tables.
     Show { module: &'a str },
+    /// Prints the text and the sites of a module that is accepted.
+    Check { module: &'a str },
     /// Writes a module with so many blocks, 10 to 1,000.
     Make { blocks: u32, module: &'a str },
 }
 
 impl<'a> Command<'a> {
-    ghost use Rattle.poke_tool.specs.Command.{IsInRange, make_row, plan_row, row, row_of, show_row, words_of};
+    ghost use Rattle.poke_tool.specs.Command.{IsInRange, check_row, make_row, plan_row, row, row_of, show_row, words_of};
 
     /// The command that the words are. `None` exactly for all other words.
     pub fn read(words: &'a [String]) -> Option<Command<'a>>
@@ -27,6 +29,7 @@ impl<'a> Command<'a> {
         match name.as_str() {
             "plan" => Command::plan(rest),
             "show" => Command::show(rest),
+            "check" => Command::check(rest),
             "make" => Command::make(rest),
             _ => None,
         }
@@ -50,6 +53,18 @@ impl<'a> Command<'a> {
     {
         match rest {
             [module] => Some(Command::Show {
+                module: module.as_str(),
+            }),
+            _ => None,
+        }
+    }
+
+    /// `check MODULE`
+    fn check(rest: &'a [String]) -> Option<Command<'a>>
+        ensures { option_map row result ≡ check_row (words_of rest.now) }
+    {
+        match rest {
+            [module] => Some(Command::Check {
                 module: module.as_str(),
             }),
             _ => None,

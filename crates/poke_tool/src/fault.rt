@@ -1,11 +1,12 @@
 //! Why a command failed, with the status and the complaint of each reason.
 ghost use Rattle.std.specs.Prelude.{◌≡◌, ◌≤◌, ◌+◌, ◌++◌, length};
 ghost use Rattle.arrayvec.specs.ArrayVec.{array_vec_len};
-ghost use Rattle.poke_tool.specs.Fault.{elf_name, elf_number, kind_name, module_reason, name_of};
+ghost use Rattle.poke_tool.specs.Fault.{elf_name, elf_number, image_name, image_place, kind_name, module_reason, name_of};
 
 use crate::module_fault::ModuleRefused;
 use crate::plan_line::PlanRefused;
 use elf_module::ElfRefused;
+use module_image::Refused;
 use poke_base::{Line, put_hex, put_text};
 use site_tables::TableKind;
 
@@ -84,7 +85,7 @@ impl Fault {
 fn put_module(line: &mut Line, why: &ModuleRefused)
     requires { array_vec_len line.old ≤ 18 }
     ensures reason { line.new.items ≡ line.old.items ++ module_reason why.now }
-    ensures short { length (module_reason why.now) ≤ 40 }
+    ensures short { length (module_reason why.now) ≤ 47 }
 {
     match why {
         ModuleRefused::TooLong => put_text(line, b"TooLong"),
@@ -93,12 +94,69 @@ fn put_module(line: &mut Line, why: &ModuleRefused)
             put_text(line, b" ");
             put_hex(line, elf_number(why));
         }
-        ModuleRefused::Table(kind, size) => {
-            put_text(line, b"Table ");
-            put_text(line, kind_name(*kind));
+        ModuleRefused::Image(why) => {
+            put_text(line, image_name(why));
             put_text(line, b" ");
-            put_hex(line, *size);
+            put_image_place(line, why);
         }
+    }
+}
+
+/// Adds what says where a module isn't accepted, a word of a table or numbers, to the line.
+#[tactic(auto, using(poke_base::proofs::Numbers::line_room))]
+fn put_image_place(line: &mut Line, why: &Refused)
+    requires { array_vec_len line.old ≤ 32 }
+    ensures place { line.new.items ≡ line.old.items ++ image_place why.now }
+    ensures short { length (image_place why.now) ≤ 33 }
+{
+    match *why {
+        Refused::Table(kind, size) => {
+            put_text(line, kind_name(kind));
+            put_text(line, b" ");
+            put_hex(line, size);
+        }
+        Refused::BadTarget(from, to) => {
+            put_hex(line, from);
+            put_text(line, b" ");
+            put_hex(line, to);
+        }
+        Refused::TextCount(n)
+        | Refused::TextSize(n)
+        | Refused::SiteCount(n)
+        | Refused::SiteOutside(n)
+        | Refused::SiteLength(n)
+        | Refused::SiteOverlap(n)
+        | Refused::KeyOutside(n)
+        | Refused::KeyState(n)
+        | Refused::NoReach(n)
+        | Refused::TracerMissing(n)
+        | Refused::Undecoded(n)
+        | Refused::EndFalls(n) => put_hex(line, n),
+        Refused::NoMemory => {}
+    }
+}
+
+/// The name of why a module isn't accepted.
+fn image_name(why: &Refused) -> &'static [u8]
+    ensures name { result.now ≡ image_name why.now }
+    ensures short { length result.now ≤ 13 }
+{
+    match why {
+        Refused::TextCount(_) => b"TextCount",
+        Refused::TextSize(_) => b"TextSize",
+        Refused::Table(..) => b"Table",
+        Refused::SiteCount(_) => b"SiteCount",
+        Refused::SiteOutside(_) => b"SiteOutside",
+        Refused::SiteLength(_) => b"SiteLength",
+        Refused::SiteOverlap(_) => b"SiteOverlap",
+        Refused::KeyOutside(_) => b"KeyOutside",
+        Refused::KeyState(_) => b"KeyState",
+        Refused::NoReach(_) => b"NoReach",
+        Refused::TracerMissing(_) => b"TracerMissing",
+        Refused::Undecoded(_) => b"Undecoded",
+        Refused::BadTarget(..) => b"BadTarget",
+        Refused::EndFalls(_) => b"EndFalls",
+        Refused::NoMemory => b"NoMemory",
     }
 }
 

@@ -3,6 +3,9 @@
 
 #[cfg(test)]
 mod asked_host;
+mod check;
+#[cfg(test)]
+mod check_tests;
 mod command;
 mod entry_lines;
 mod fault;
@@ -11,17 +14,25 @@ mod make;
 #[cfg(test)]
 mod make_tests;
 mod module_fault;
+mod module_file;
 #[cfg(test)]
 mod modules;
+#[cfg(test)]
+mod order_tests;
 mod plan;
 mod plan_line;
 mod print_table;
+#[cfg(test)]
+mod refusal_tests;
 mod show;
 #[cfg(test)]
 mod show_tests;
-mod tables;
+#[cfg(test)]
+mod site_tests;
 #[cfg(test)]
 mod tests;
+#[cfg(test)]
+mod text_tests;
 mod top;
 #[cfg(test)]
 mod written_tests;

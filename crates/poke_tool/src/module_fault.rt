@@ -1,7 +1,10 @@
 //! Why a module file is refused.
 
 use elf_module::ElfRefused;
-use site_tables::TableKind;
+use module_image::Refused;
+
+/// How many bytes a module file may have.
+pub const MODULE_LIMIT: u64 = 67_108_864;
 
 /// The first thing that is wrong with a module file.
 #[derive(Clone, Copy, Debug, PartialEq, Eq)]
@@ -10,6 +13,6 @@ pub enum ModuleRefused {
     TooLong,
     /// It isn't read as ELF64.
     Elf(ElfRefused),
-    /// A table isn't whole entries: which one, and how many bytes it has.
-    Table(TableKind, u64),
+    /// It isn't accepted as a module. `show` asks for whole tables alone.
+    Image(Refused),
 }

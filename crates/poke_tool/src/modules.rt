@@ -14,6 +14,14 @@ pub struct Small<'a> {
     pub functions: &'a [(&'a [u8], u64)],
 }
 
+/// A return, and nothing else.
+pub const RETURN: Small<'static> = Small {
+    text: b"\xc3",
+    sites: &[],
+    keys: &[],
+    functions: &[],
+};
+
 /// A switch that isn't likely.
 pub fn jump(at: u64, target: u64, key: u32) -> PlanSite {
     PlanSite::Jump {
@@ -21,6 +29,23 @@ pub fn jump(at: u64, target: u64, key: u32) -> PlanSite {
         target,
         key,
         likely: false,
+    }
+}
+
+/// A call, and a tail call.
+pub fn call(at: u64, key: u32) -> PlanSite {
+    PlanSite::Call {
+        at,
+        key,
+        tail: false,
+    }
+}
+
+pub fn tail(at: u64, key: u32) -> PlanSite {
+    PlanSite::Call {
+        at,
+        key,
+        tail: true,
     }
 }
 
@@ -64,6 +89,32 @@ pub fn file(alloc: Global, plan: &Plan) -> Result<Vec<u8>, Fail> {
     Ok(out)
 }
 
+/// Where a byte of a written file stands.
+#[derive(Clone, Copy)]
+pub enum Place {
+    /// So many bytes behind the beginning of the file.
+    File(usize),
+    /// So many bytes behind the beginning of the header of the section with this index.
+    Header(usize, usize),
+}
+
+/// Changes some bytes of a written file, whose nine section headers end it.
+pub fn change(file: &mut [u8], edits: &[(Place, u8)]) {
+    let headers = file.len().saturating_sub(9 * 64);
+    for &(place, byte) in edits {
+        let at = match place {
+            Place::File(at) => at,
+            Place::Header(section, at) => section
+                .saturating_mul(64)
+                .saturating_add(at)
+                .saturating_add(headers),
+        };
+        if let Some(old) = file.get_mut(at) {
+            *old = byte;
+        }
+    }
+}
+
 /// `f` and a number.
 #[tactic(auto, using(poke_base::proofs::Numbers::line_room))]
 fn numbered(number: u32) -> Name {
@@ -100,5 +151,26 @@ pub fn traced(alloc: Global) -> Result<Plan, Fail> {
         name: name(b"h"),
         at,
     })?;
+    Ok(plan)
+}
+
+/// 1,024 traced NOPs, and the function that is called where they are traced.
+pub fn full(alloc: Global) -> Result<Plan, Fail> {
+    let mut plan = plan(
+        alloc,
+        &Small {
+            text: b"\xc3",
+            sites: &[],
+            keys: &[],
+            functions: &[(b"ftrace_caller", 0x40_1000)],
+        },
+    )?;
+    let mut at = 0x40_1001;
+    for _ in 0..1_024 {
+        plan.text.extend_from_slice(b"\x0f\x1fD\0\0")?;
+        plan.sites.push(PlanSite::Trace { at })?;
+        at = at.wrapping_add(5);
+    }
+    plan.text.push(0xc3)?;
     Ok(plan)
 }

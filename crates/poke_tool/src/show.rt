@@ -1,20 +1,19 @@
 //! The command `show`: what a module's tables say.
 ghost use Rattle.std.specs.Prelude.{◌≤◌, IfOk, length};
+ghost use Rattle.site_tables.specs.Found.{AreWhole};
 ghost use Rattle.poke_tool.specs.Command.{Show as ShowRow};
 ghost use Rattle.poke_tool.specs.Module.{ModuleShows};
 ghost use Rattle.poke_tool.specs.Runs.{ShowsFile};
-ghost use Rattle.poke_tool.specs.Tables.{AreWhole, text_of};
+ghost use Rattle.poke_tool.specs.Tables.{text_of};
 
 use crate::fault::Fault;
-use crate::module_fault::ModuleRefused;
-use crate::tables::{Tables, read_table};
+use crate::module_fault::{MODULE_LIMIT, ModuleRefused};
+use crate::print_table::print_tables;
 use elf_module::ElfFile;
+use module_image::Refused;
 use poke_base::{Host, ReadFail, WriteFail};
-use site_tables::TableKind;
+use site_tables::{Tables, find_tables};
 use std::alloc::Global;
-
-/// How many bytes a module file may have.
-const MODULE_LIMIT: u64 = 67_108_864;
 
 /// Prints the entries of a module's tables, a line each: jump entries, then calls, then traces.
 ///
@@ -35,7 +34,7 @@ pub fn show<H: Host>(alloc: Global, name: &str, host: &mut H) -> Result<(), Faul
         Ok(tables) => tables,
         Err(why) => return Err(Fault::Module(why)),
     };
-    match tables.print(host) {
+    match print_tables(&tables, host) {
         Ok(()) => Ok(()),
         Err(WriteFail) => Err(Fault::Write),
     }
@@ -55,12 +54,8 @@ fn read_tables(bytes: &[u8]) -> Result<Tables<'_>, ModuleRefused>
         Ok(file) => file,
         Err(why) => return Err(ModuleRefused::Elf(why)),
     };
-    let jumps = read_table(&file, TableKind::Jump)?;
-    let calls = read_table(&file, TableKind::Call)?;
-    let traces = read_table(&file, TableKind::Trace)?;
-    Ok(Tables {
-        jumps,
-        calls,
-        traces,
-    })
+    match find_tables(&file) {
+        Ok(tables) => Ok(tables),
+        Err(bad) => Err(ModuleRefused::Image(Refused::Table(bad.kind, bad.size))),
+    }
 }

@@ -5,6 +5,7 @@ ghost use Rattle.poke_tool.specs.Command.{Row, Make, row, row_of, words_of};
 ghost use Rattle.poke_tool.specs.Runs.{DoesRow, LeavesAll, Runs};
 ghost use Rattle.poke_tool.specs.Endings.{AsksInOrder, EndsAloud, EndsMaking, EndsSaying};
 
+use crate::check::check;
 use crate::command::Command;
 use crate::fault::Fault;
 use crate::make::make;
@@ -51,6 +52,7 @@ fn do_command<H: Host>(alloc: Global, words: &[String], host: &mut H) -> Result<
         None => Err(Fault::Words),
         Some(Command::Plan { file }) => plan(alloc, file, host),
         Some(Command::Show { module }) => show(alloc, module, host),
+        Some(Command::Check { module }) => check(alloc, module, host),
         Some(Command::Make { blocks, module }) => make(alloc, blocks, module, host),
     }
 }

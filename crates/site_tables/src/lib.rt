@@ -2,7 +2,9 @@
 #![tactic(auto)]
 
 pub mod entries;
+pub mod tables;
 
 pub use entries::{
     BadSize, CallSite, JumpEntry, TableKind, call_site, count, jump_entry, trace_site,
 };
+pub use tables::{BadTable, Table, Tables, find_table, find_tables};

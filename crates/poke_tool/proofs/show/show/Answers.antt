@@ -22,20 +22,20 @@ returns-in-Err g c =
       says = subst (λ (file : List ℕ). ModuleShows file (Err c.in-Err.why)) c.deref.ensures.value c.in-Err.ensures.says;
     })
 
-pub returns-in-Ok-print : goal.returns-in-Ok-print
-returns-in-Ok-print g c =
-    file_done (ShowRow c.args.name.now) _ _ _ c.args.name.now c.read_file.new.out.items _ module_limit refl c.in-Ok.ensures c.in-Ok-print.ensures
+pub returns-in-Ok-print_tables : goal.returns-in-Ok-print_tables
+returns-in-Ok-print_tables g c =
+    file_done (ShowRow c.args.name.now) _ _ _ c.args.name.now c.read_file.new.out.items _ module_limit refl c.in-Ok.ensures c.in-Ok-print_tables.ensures
     (record {
       file = c.read_file.new.out.items;
-      holds = held_after _ _ _ c.args.name.now c.read_file.new.out.items _ module_limit (Ok tt) c.in-Ok.ensures c.in-Ok-print.ensures;
+      holds = held_after _ _ _ c.args.name.now c.read_file.new.out.items _ module_limit (Ok tt) c.in-Ok.ensures c.in-Ok-print_tables.ensures;
       says = subst (λ (file : List ℕ). ModuleShows file (Ok (tables_text c.in-Ok-read_tables.tables))) c.deref.ensures.value c.in-Ok-read_tables.ensures.says;
     })
 
 pub returns : goal.returns
 returns g c =
-    file_cut (ShowRow c.args.name.now) _ _ _ c.args.name.now c.read_file.new.out.items _ module_limit c.in-Err-print.field-0 refl c.in-Ok.ensures c.in-Err-print.ensures
+    file_cut (ShowRow c.args.name.now) _ _ _ c.args.name.now c.read_file.new.out.items _ module_limit c.in-Err-print_tables.field-0 refl c.in-Ok.ensures c.in-Err-print_tables.ensures
     (record {
       file = c.read_file.new.out.items;
-      holds = held_after _ _ _ c.args.name.now c.read_file.new.out.items _ module_limit (Err c.in-Err-print.field-0) c.in-Ok.ensures c.in-Err-print.ensures;
+      holds = held_after _ _ _ c.args.name.now c.read_file.new.out.items _ module_limit (Err c.in-Err-print_tables.field-0) c.in-Ok.ensures c.in-Err-print_tables.ensures;
       says = subst (λ (file : List ℕ). ModuleShows file (Ok (tables_text c.in-Ok-read_tables.tables))) c.deref.ensures.value c.in-Ok-read_tables.ensures.says;
     })

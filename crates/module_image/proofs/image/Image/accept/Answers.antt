@@ -1,0 +1,31 @@
+use Rattle.std.proofs.Common.{◌≡◌, ◌∙◌, List, ℕ, ap, length, subst, sym}
+use Rattle.module_image.specs.declared.site.Site.{Site}
+use Rattle.module_image.specs.Layout.{laid, layout}
+use Rattle.module_image.specs.Sites.{sites, text}
+use Rattle.module_image.specs.Text.{AreInside}
+use Rattle.module_image.proofs.Sound.{found_aims, found_marks}
+use Rattle.module_image.proofs.image.Image.accept.Goals as goal
+
+pub of-requires-2-clause-functions : goal.of-requires-2-clause-functions
+of-requires-2-clause-functions c =
+    found_aims c.args.file.now c.in_ok-found.found.text.index c.deref-4.result.now c.in_ok-found.ensures.found.is_text.index (c.deref-4.ensures.value ∙ c.in_ok-functions.ensures.addresses)
+
+pub invariant_of-result : goal.invariant_of-result
+invariant_of-result c =
+    let found = c.in_ok-found.ensures.found in
+    let swept = c.in_ok-swept.ensures.swept in
+    let at = c.in_ok-found.found.text.base in
+    let bytes = c.in_ok-swept.swept.text.items in
+    let list = c.in_ok-found.found.sites.items in
+    let same : layout c.args.file.now ≡ laid at bytes list =
+    ap (λ (b : ℕ). laid b (text c.args.file.now) (sites c.args.file.now)) (sym found.is_text.same_base)
+    ∙ ap (λ (t : List ℕ). laid at t (sites c.args.file.now)) (sym swept.has_text)
+    ∙ ap (λ (ss : List Site). laid at bytes ss) (sym found.has_sites) in
+    record {
+      inside = subst (λ (n : ℕ). AreInside at n list) (ap length found.is_text.same_bytes ∙ sym swept.same_length) found.inside;
+      apart = found.apart;
+      marks = found_marks c.args.file.now at bytes list c.in_ok-swept.swept.marks.items same swept.marks;
+      few = found.few;
+      jump_numbers = c.in_ok-jump_keys.ensures.small;
+      call_numbers = c.in_ok-call_keys.ensures.small;
+    }

@@ -1,0 +1,19 @@
+-- The line of a site: where it is, what it is patched to, and what it holds.
+use Rattle.std.specs.Prelude.{ℕ, if◌then◌else◌, List, [], ◌∷◌, ◌++◌, codes}
+use Rattle.hex.specs.Hex.{encode_lower}
+use Rattle.poke_base.specs.Number.{hexadecimal}
+use Rattle.module_image.specs.declared.site.Site.{Site}
+use Rattle.module_image.specs.declared.site.SiteKind.{SiteKind}
+use Rattle.module_image.specs.declared.site.SiteKind.TheVariants.{Jump, Call, Tail, Trace}
+
+abbrev pub kind_name : SiteKind → List ℕ
+kind_name (Jump target key likely) = codes "jump"
+kind_name (Call key) = codes "call"
+kind_name (Tail key) = codes "tail"
+kind_name Trace = codes "trace"
+
+-- `site ADDR KIND BYTES`, with `foreign` behind it where the site is
+abbrev pub site_line : Site → List ℕ → List ℕ
+site_line s code =
+    codes "site " ++ hexadecimal s.at ++ codes " " ++ kind_name s.kind ++ codes " " ++ encode_lower code
+    ++ (if s.foreign then codes " foreign" else []) ++ 10 ∷ []

@@ -1,0 +1,35 @@
+-- The wanted form of a site.
+use Rattle.std.specs.Prelude.{◌==◌, ℕ, Bool, not, nat_lt, if◌then◌else◌, List, slice_index}
+use Rattle.insn_forms.specs.declared.forms.Form.{Form}
+use Rattle.insn_forms.specs.declared.forms.Form.TheVariants.{Nop2, Nop5, Jmp8, Jmp32, Call as CallTo, Ret}
+use Rattle.module_image.specs.declared.site.SiteKind.{SiteKind}
+use Rattle.module_image.specs.declared.site.SiteKind.TheVariants.{Jump, Call, Tail, Trace}
+
+-- a NOP and a jump of so many bytes
+abbrev pub nop_of : ℕ → Form
+nop_of len = if len == 2 then Nop2 else Nop5
+
+abbrev pub jump_of : ℕ → ℕ → Form
+jump_of len target = if len == 2 then Jmp8 target else Jmp32 target
+
+-- where a key's count is above 0, a likely site holds the NOP and another the jump (Linux: `jump_label_type`)
+abbrev pub switched : ℕ → ℕ → Bool → ℕ → Form
+switched len target likely count =
+    if (if likely then not (nat_lt 0 count) else nat_lt 0 count) then jump_of len target else nop_of len
+
+abbrev pub called : ℕ → Form
+called func = if func == 0 then Nop5 else CallTo func
+
+abbrev pub tail_called : ℕ → Form
+tail_called func = if func == 0 then Ret else Jmp32 func
+
+abbrev pub traced : ℕ → Bool → Form
+traced tracer on = if on then CallTo tracer else Nop5
+
+-- the form that a site of so many bytes wants: the keys' states are counts and functions by their numbers, and
+-- `on` says whether the site is traced
+abbrev pub wanted : ℕ → List ℕ → Bool → ℕ → SiteKind → Form
+wanted tracer states on len (Jump target key likely) = switched len target likely (slice_index states key)
+wanted tracer states on len (Call key) = called (slice_index states key)
+wanted tracer states on len (Tail key) = tail_called (slice_index states key)
+wanted tracer states on len Trace = traced tracer on

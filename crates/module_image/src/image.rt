@@ -1,0 +1,196 @@
+//! Accepted modules.
+ghost use Rattle.std.specs.Prelude.{◌≡◌, ◌<◌, ◌^◌, length};
+ghost use Rattle.module_image.specs.Names.{value_of};
+ghost use Rattle.module_image.specs.Module.{is_trace_at, trace_at};
+ghost use Rattle.module_image.specs.Numbers.{AreNumbers};
+
+use crate::finding::{Found, find_keys};
+use crate::lookup::{plain_at, site_at};
+use crate::names::Names;
+use crate::naming::{find_functions, key_names};
+use crate::rows::{no_reach, tracer_missing};
+use crate::swept::Swept;
+use crate::{Key, KeyClass, Refused, Site, SiteKind, Unit};
+use elf_module::ElfFile;
+use std::alloc::Global;
+use std::marker::Model;
+use x64_subset::Insn;
+
+/// The name of the function that is called at traced sites.
+const TRACER_NAME: &[u8] = b"ftrace_caller";
+
+/// How many bytes ENDBR64 has, behind which a function's trace site may stand.
+const ENDBR64_BYTES: u64 = 4;
+
+/// An accepted module: its text after early writing, its sites and keys, and what its names stand for.
+#[derive(Drop)]
+pub struct Image {
+    base: u64,
+    text: Vec<u8>,
+    units: Vec<Unit>,
+    marks: Vec<Option<u32>>,
+    sites: Vec<Site>,
+    keys: Vec<Key>,
+    functions: Names,
+    jump_keys: Names,
+    call_keys: Names,
+}
+
+impl Model for Image {
+    ghost use Rattle.module_image.specs.Module.{Module};
+
+    ghost Value = { Module };
+
+    ghost use Rattle.module_image.specs.Inside.{module_of, IsSound};
+
+    ghost view = { module_of };
+
+    ghost invariant = { IsSound };
+}
+
+impl Image {
+    ghost use Rattle.std.specs.Prelude.{◌≡◌, ◌<◌, ◌^◌, IfOk, IfErr, length};
+    ghost use Rattle.module_image.specs.Layout.{site_at};
+    ghost use Rattle.module_image.specs.Names.{value_of};
+    ghost use Rattle.module_image.specs.Module.{IsModule, names_of, plain_at, trace_site_of, tracer_of};
+    ghost use Rattle.module_image.specs.Refusals.{IsRefusedFor};
+    ghost use Rattle.module_image.specs.Text.{AreInside, AreApart};
+
+    /// Accepts the module of a file: finds its sites and keys, writes each site that holds one of its early forms
+    /// to what it wants with the keys as the file has them, and sweeps the text. It takes time in O(n log n) of
+    /// entries and symbols, and linear in the text. The text ends below the last address.
+    ///
+    /// # Errors
+    /// The first condition that holds, in the order of `Refused`, with its numbers; `NoMemory` may come at any place.
+    pub fn accept(alloc: Global, file: &ElfFile<'_>) -> Result<Image, Refused>
+        ensures accepted { IfOk result (IsModule file.now) }
+        ensures refused { IfErr result (IsRefusedFor file.now) }
+    {
+        let found = Found::of(alloc, file)?;
+        let keys = find_keys(alloc, file, &found.addresses)?;
+        no_reach(file, &found.sites)?;
+        let functions = find_functions(alloc, file, found.text.index)?;
+        tracer_missing(file, &found.sites, functions.names.get(TRACER_NAME))?;
+        let swept = Swept::of(alloc, file, &found, &keys, &functions.addresses)?;
+        let jump_keys = key_names(alloc, file, 0, &found.addresses.jumps)?;
+        let jump_count = found.addresses.jumps.len() as u32;
+        let call_keys = key_names(alloc, file, jump_count, &found.addresses.calls)?;
+        Ok(Image {
+            base: found.text.base,
+            text: swept.text,
+            units: swept.units,
+            marks: swept.marks,
+            sites: found.sites,
+            keys,
+            functions: functions.names,
+            jump_keys,
+            call_keys,
+        })
+    }
+
+    /// The address of the text's first byte.
+    pub fn base(&self) -> u64
+        ensures { result ≡ self.now.base }
+    {
+        self.base
+    }
+
+    /// The text, after early writing.
+    pub fn text(&self) -> &[u8]
+        ensures { result.now ≡ self.now.text }
+    {
+        &self.text
+    }
+
+    /// The sites, ascending. No two share a byte, and all their bytes are in the text.
+    pub fn sites(&self) -> &[Site]
+        ensures sites { result.now ≡ self.now.sites }
+        ensures inside { AreInside self.now.base (length self.now.text) self.now.sites }
+        ensures apart { AreApart self.now.sites }
+    {
+        &self.sites
+    }
+
+    /// The keys: those of jumps, then those of calls, each ascending by address.
+    pub fn keys(&self) -> &[Key]
+        ensures { result.now ≡ self.now.keys }
+    {
+        &self.keys
+    }
+
+    /// The number of the site that isn't foreign and begins at an address. `None` exactly where there is none.
+    pub fn site_at(&self, at: u64) -> Option<u32>
+        ensures { result ≡ site_at self.now.sites at }
+    {
+        site_at(self.base, &self.marks, at)
+    }
+
+    /// The plain instruction that begins at an address, with its length in bytes. `None` exactly where none does.
+    pub fn insn_at(&self, at: u64) -> Option<(Insn, u8)>
+        ensures { result ≡ plain_at self.now at }
+    {
+        plain_at(self.base, &self.units, at)
+    }
+
+    /// The number of the key that the first symbol of a name stands for which names a key of that class. `None`
+    /// exactly where there is no such symbol.
+    pub fn key_named(&self, class: KeyClass, name: &[u8]) -> Option<u32>
+        ensures { result ≡ value_of name.now (names_of self.now class) }
+    {
+        match class {
+            KeyClass::Jump => number_named(&self.jump_keys, name),
+            KeyClass::Call => number_named(&self.call_keys, name),
+        }
+    }
+
+    /// The address of the function that the first symbol of a name stands for which names a function. `None`
+    /// exactly where there is no such symbol.
+    pub fn function_named(&self, name: &[u8]) -> Option<u64>
+        ensures { result ≡ value_of name.now self.now.functions }
+    {
+        self.functions.get(name)
+    }
+
+    /// The number of the trace site at a function's address, or where there is none of the one four bytes behind
+    /// it, after ENDBR64. `None` exactly where both are missing.
+    pub fn trace_site_of(&self, function: u64) -> Option<u32>
+        ensures { result ≡ trace_site_of self.now function }
+    {
+        match trace_at(&self.sites, function) {
+            Some(site) => Some(site),
+            None => trace_at(&self.sites, function.wrapping_add(ENDBR64_BYTES)),
+        }
+    }
+
+    /// The address of the function `ftrace_caller`. `None` exactly where there is no such function.
+    pub fn tracer(&self) -> Option<u64>
+        ensures { result ≡ tracer_of self.now }
+    {
+        self.functions.get(TRACER_NAME)
+    }
+}
+
+/// The key's number that a name stands for.
+fn number_named(names: &Names, name: &[u8]) -> Option<u32>
+    requires { AreNumbers names.now }
+    ensures { result ≡ value_of name.now names.now }
+{
+    let number = names.get(name)?;
+    Some(number as u32)
+}
+
+/// The number of the first trace site at an address.
+fn trace_at(sites: &[Site], at: u64) -> Option<u32>
+    requires { length sites.now < 2 ^ 32 }
+    ensures { result ≡ trace_at sites.now at }
+{
+    let place = sites.iter().position(|site| is_trace_at(site, at))?;
+    Some(place as u32)
+}
+
+/// Whether a trace site begins at an address.
+fn is_trace_at(site: &Site, at: u64) -> bool
+    ensures { result ≡ is_trace_at at site.now }
+{
+    matches!(site.kind, SiteKind::Trace) && site.at == at
+}

@@ -1,0 +1,45 @@
+//! Laws of accepted modules: functions that do nothing, whose contracts are the laws.
+ghost use Rattle.module_image.specs.Flows.{FunctionsAreStarts, PatchedSitesFlow, PlainInstructionsFlow, SitesAreStarts};
+ghost use Rattle.module_image.specs.Held.{FirstStatesLeadWell, ForeignSitesHoldNoForm, SitesHoldWhatTheyWant, WantedFormsReach};
+
+/// A plain instruction leads a processor from a start to a start: where it jumps, where it goes on, and where it
+/// returns to later.
+pub fn plain_instructions_flow()
+    ensures { PlainInstructionsFlow }
+{}
+
+/// So does the form that a site wants which isn't foreign, whatever counts the keys have and whatever starts the
+/// functions are.
+pub fn patched_sites_flow()
+    ensures { PatchedSitesFlow }
+{}
+
+/// Functions are starts.
+pub fn functions_are_starts()
+    ensures { FunctionsAreStarts }
+{}
+
+/// A site that isn't foreign begins at a start, at which no plain instruction begins.
+pub fn sites_are_starts()
+    ensures { SitesAreStarts }
+{}
+
+/// The form that a site wants which isn't foreign reaches its target, and has the site's length.
+pub fn wanted_forms_reach()
+    ensures { WantedFormsReach }
+{}
+
+/// After early writing a site that isn't foreign holds what it wants with the keys as the file has them.
+pub fn sites_hold_what_they_want()
+    ensures { SitesHoldWhatTheyWant }
+{}
+
+/// A foreign site holds no form that it ever wants, so an update that would change it clashes.
+pub fn foreign_sites_hold_no_form()
+    ensures { ForeignSitesHoldNoForm }
+{}
+
+/// The functions that keys have in the file are starts.
+pub fn first_states_lead_well()
+    ensures { FirstStatesLeadWell }
+{}

@@ -1,0 +1,53 @@
+//! What begins at an address, by the tables of units and of sites.
+ghost use Rattle.std.specs.Prelude.{◌≡◌, ◌-◌, nat_lt, if◌then◌else◌, slice_get, None};
+ghost use Rattle.module_image.specs.Leads.{begins_at};
+ghost use Rattle.module_image.specs.Module.{plain_of};
+ghost use Rattle.module_image.specs.Sweeping.{mark_of};
+
+use crate::Unit;
+use x64_subset::Insn;
+
+/// The plain instruction that begins at an address, with its length in bytes. The units are those of a text at
+/// the address `base`, by offset.
+pub fn plain_at(base: u64, units: &[Unit], at: u64) -> Option<(Insn, u8)>
+    ensures { result ≡ (if nat_lt at base then None else plain_of (slice_get units.now (at - base))) }
+{
+    if at < base {
+        return None;
+    }
+    match units.get((at - base) as usize).copied() {
+        Some(Unit::Plain(insn, len)) => Some((insn, len)),
+        Some(Unit::Nothing) => None,
+        Some(Unit::Site(_)) => None,
+        None => None,
+    }
+}
+
+/// The number of the site that isn't foreign and begins at an address. The marks are those of a text at the
+/// address `base`, by offset.
+pub fn site_at(base: u64, marks: &[Option<u32>], at: u64) -> Option<u32>
+    ensures { result ≡ (if nat_lt at base then None else mark_of (slice_get marks.now (at - base))) }
+{
+    if at < base {
+        return None;
+    }
+    match marks.get((at - base) as usize).copied() {
+        Some(mark) => mark,
+        None => None,
+    }
+}
+
+/// Whether a unit begins at an address. The units are those of a text at the address `base`, by offset.
+pub fn begins_at(base: u64, units: &[Unit], at: u64) -> bool
+    ensures { result ≡ begins_at base units.now at }
+{
+    if at < base {
+        return false;
+    }
+    match units.get((at - base) as usize).copied() {
+        Some(Unit::Plain(_, _)) => true,
+        Some(Unit::Site(_)) => true,
+        Some(Unit::Nothing) => false,
+        None => false,
+    }
+}

@@ -1,0 +1,90 @@
+//! Names and what they stand for.
+ghost use Rattle.std.specs.Prelude.{◌≡◌, ℕ, List, [], ◌∷◌, ◌++◌, None, IfErr, OnOk};
+ghost use Rattle.module_image.specs.Names.{Named, value_of};
+ghost use Rattle.module_image.specs.Naming.{named_in};
+ghost use Rattle.module_image.specs.declared.refused.Refused.TheVariants.{NoMemory};
+
+use crate::Refused;
+use indexmap::IndexMap;
+use std::alloc::{AllocError, Global};
+use std::marker::Model;
+
+/// What names stand for: for each name the first thing that it was given to.
+#[derive(Drop)]
+pub struct Names {
+    values: IndexMap<Vec<u8>, u64>,
+}
+
+impl Model for Names {
+    ghost Value = { List Named };
+
+    ghost view = { λ names. named_in names.values.entries };
+}
+
+impl Names {
+    /// No names.
+    pub fn new(alloc: Global) -> Names
+        ensures { result ≡ [] }
+    {
+        Names {
+            values: IndexMap::new(alloc),
+        }
+    }
+
+    /// What a name stands for. `None` exactly where it stands for nothing.
+    pub fn get(&self, name: &[u8]) -> Option<u64>
+        ensures { result ≡ value_of name.now self.now }
+    {
+        self.values.get(name).copied()
+    }
+
+    /// Gives a name to a value, where it stands for nothing yet.
+    ///
+    /// # Errors
+    /// Where there is no memory.
+    pub fn add(&mut self, alloc: Global, name: &[u8], value: u64) -> Result<(), Refused>
+        ensures names { OnOk result ((q : List ℕ) → value_of q self.new ≡ value_of q (self.old ++ (name.now, value) ∷ [])) }
+        ensures failed { IfErr result (λ why. why ≡ NoMemory) }
+    {
+        match self.get(name) {
+            Some(_) => Ok(()),
+            None => Ok(put_entry(alloc, &mut self.values, name, value)?),
+        }
+    }
+}
+
+/// Puts a copy of a name that isn't there into a map.
+fn put_entry(
+    alloc: Global,
+    values: &mut IndexMap<Vec<u8>, u64>,
+    name: &[u8],
+    value: u64,
+) -> Result<(), AllocError>
+    requires { value_of name.now (named_in values.old.entries) ≡ None }
+    ensures { OnOk result (named_in values.new.entries ≡ named_in values.old.entries ++ (name.now, value) ∷ []) }
+{
+    let name = Vec::from_slice(alloc, name)?;
+    values.insert(name, value)?;
+    Ok(())
+}
+
+#[cfg(test)]
+mod tests {
+    use super::*;
+    use std::test::Fail;
+
+    #[test]
+    fn the_first_value_of_a_name_stays(rt: HostRuntime) -> Result<(), Fail> {
+        let alloc = rt.alloc();
+        let mut names = Names::new(alloc);
+        names.add(alloc, b"f", 1)?;
+        names.add(alloc, b"g", 2)?;
+        names.add(alloc, b"f", 3)?;
+        names.add(alloc, b"", 4)?;
+        assert_eq!(rt; names.get(b"f"), Some(1));
+        assert_eq!(rt; names.get(b"g"), Some(2));
+        assert_eq!(rt; names.get(b""), Some(4));
+        assert_eq!(rt; names.get(b"fg"), None);
+        Ok(())
+    }
+}

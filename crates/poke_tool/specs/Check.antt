@@ -1,0 +1,69 @@
+-- What `check` says of a module file, and why one isn't accepted.
+use Rattle.std.specs.Prelude.{◌≡◌, ◌≤◌, ◌<◌, ⊤, ℕ, List, [], ◌∷◌, ◌++◌, length, codes, Result, Ok, Err}
+use Rattle.std.specs.List.{flat_map}
+use Rattle.poke_base.specs.Host.{Outside}
+use Rattle.poke_base.specs.Number.{decimal, hexadecimal}
+use Rattle.elf_module.specs.Elf.{Elf, sections_of, symbols_of}
+use Rattle.elf_module.specs.Refusals.{IsRefusal, Passes}
+use Rattle.module_image.specs.declared.site.Site.{Site}
+use Rattle.module_image.specs.Entries.{base}
+use Rattle.module_image.specs.Sites.{code_at, sites, text}
+use Rattle.module_image.specs.SiteLine.{site_line}
+use Rattle.module_image.specs.Module.{Module, IsModule}
+use Rattle.module_image.specs.Refusals.{IsRefusal as IsImageRefusal, Passes as ImagePasses}
+use Rattle.poke_tool.specs.declared.fault.Fault.{Fault}
+use Rattle.poke_tool.specs.declared.fault.Fault.TheVariants.{Module as ModuleFault, Memory}
+use Rattle.poke_tool.specs.declared.module_fault.ModuleRefused.{ModuleRefused}
+use Rattle.poke_tool.specs.declared.module_fault.ModuleRefused.TheVariants.{TooLong, Elf as NoElf, Image}
+use Rattle.poke_tool.specs.Plan.{Holds}
+use Rattle.poke_tool.specs.Module.{module_limit}
+
+-- the sections and symbols that a file's bytes say
+abbrev pub elf_of : List ℕ → Elf
+elf_of file = record { sections = sections_of file; symbols = symbols_of file }
+
+-- `text BASE SIZE`, the size in bytes, in decimal
+abbrev pub text_line : ℕ → List ℕ → List ℕ
+text_line base text = codes "text " ++ hexadecimal base ++ codes " " ++ decimal (length text) ++ 10 ∷ []
+
+-- the line of a site of a text
+abbrev pub line_of : ℕ → List ℕ → Site → List ℕ
+line_of base text s = site_line s (code_at base text s.at s.len)
+
+-- the lines of all sites
+abbrev pub site_lines : ℕ → List ℕ → List Site → List ℕ
+site_lines base text sites = flat_map (line_of base text) sites
+
+abbrev pub accepted_line : List ℕ
+accepted_line = codes "accepted" ++ 10 ∷ []
+
+-- what is printed of a module that is accepted: its text, its sites, and that it is
+abbrev pub accepted_text : ℕ → List ℕ → List Site → List ℕ
+accepted_text base text sites = (text_line base text ++ site_lines base text sites) ++ accepted_line
+
+-- why a module file isn't accepted, the first thing that is wrong, or the text that is printed of it
+abbrev pub ModuleChecks : List ℕ → Result (List ℕ) ModuleRefused → Type 0
+ModuleChecks file (Err TooLong) = module_limit < length file
+ModuleChecks file (Err (NoElf why)) = (length file ≤ module_limit) × IsRefusal file why
+ModuleChecks file (Err (Image why)) = (length file ≤ module_limit) × Passes file 13 × IsImageRefusal (elf_of file) why
+ModuleChecks file (Ok printed) =
+    (length file ≤ module_limit) × Passes file 13 × ImagePasses (elf_of file) 15
+    × (printed ≡ accepted_text (base (elf_of file)) (text (elf_of file)) (sites (elf_of file)))
+
+-- the bytes are those of a module file that is accepted as this module
+pub record Accepts (file : List ℕ) (m : Module) : Type 0 where
+  pub fits : length file ≤ module_limit
+  pub passes : Passes file 13
+  pub is_module : IsModule (elf_of file) m
+
+-- why bytes aren't accepted: they are refused, or there was no memory
+abbrev pub RefusesFile : List ℕ → Fault → Type 0
+RefusesFile file (ModuleFault why) = ModuleChecks file (Err why)
+RefusesFile file Memory = ⊤
+RefusesFile file _ = ⊥
+
+-- the file says this of what is printed
+pub record SaysCheck (outside : Outside) (name : List ℕ) (said : Result (List ℕ) ModuleRefused) : Type 0 where
+  pub file : List ℕ
+  pub holds : Holds outside name file
+  pub says : ModuleChecks file said

@@ -1,0 +1,85 @@
+//! The command `check`: whether a module is accepted, and what it then is.
+ghost use Rattle.std.specs.Prelude.{◌≡◌, ◌≤◌, length};
+ghost use Rattle.module_image.specs.Sites.{code_at};
+ghost use Rattle.module_image.specs.Text.{IsInside};
+ghost use Rattle.poke_base.specs.Host.{Prints};
+ghost use Rattle.poke_tool.specs.Check.{accepted_text, site_lines, text_line};
+ghost use Rattle.poke_tool.specs.Command.{Check as CheckRow};
+ghost use Rattle.poke_tool.specs.Runs.{ShowsFile};
+
+use crate::fault::Fault;
+use crate::module_fault::{MODULE_LIMIT, ModuleRefused};
+use crate::module_file::accept_file;
+use module_image::{Image, Site, site_line};
+use poke_base::{Host, Line, ReadFail, WriteFail, put_dec, put_hex, put_text};
+use std::alloc::Global;
+
+/// Prints the text and the sites of a module, a line each, and that it is accepted.
+///
+/// # Errors
+/// Why the file wasn't read or was refused, in which case nothing was printed; a failed write, after
+/// which a front of the text was printed; want of memory, which comes before anything is printed.
+pub fn check<H: Host>(alloc: Global, name: &str, host: &mut H) -> Result<(), Fault>
+    ensures { ShowsFile (CheckRow name.now) (H.outside host.old) (H.outside host.new) result }
+{
+    let mut bytes = Vec::new(alloc);
+    match host.read_file(name, MODULE_LIMIT, &mut bytes) {
+        Ok(()) => {}
+        Err(ReadFail::Failed) => return Err(Fault::Read),
+        Err(ReadFail::TooLong) => return Err(Fault::Module(ModuleRefused::TooLong)),
+        Err(ReadFail::NoMemory) => return Err(Fault::Memory),
+    }
+    let image = match accept_file(alloc, &bytes) {
+        Ok(image) => image,
+        Err(fault) => return Err(fault),
+    };
+    match print_image(&image, host) {
+        Ok(()) => Ok(()),
+        Err(WriteFail) => Err(Fault::Write),
+    }
+}
+
+/// Prints a module: its text, its sites, and that it is accepted.
+fn print_image<H: Host>(image: &Image, host: &mut H) -> Result<(), WriteFail>
+    ensures { Prints (H.outside host.old) (H.outside host.new) (accepted_text image.now.base image.now.text image.now.sites) result }
+{
+    host.print(&text_line(image.base(), image.text()))?;
+    print_sites(image, host)?;
+    host.print(b"accepted\n")
+}
+
+/// Prints a line for each site of a module, ascending.
+fn print_sites<H: Host>(image: &Image, host: &mut H) -> Result<(), WriteFail>
+    ensures { Prints (H.outside host.old) (H.outside host.new) (site_lines image.now.base image.now.text image.now.sites) result }
+{
+    let base = image.base();
+    let text = image.text();
+    for site in image.sites() {
+        host.print(&site_line(site, code_of(base, text, site)))?;
+    }
+    Ok(())
+}
+
+/// The bytes that a site of a text holds.
+fn code_of<'a>(base: u64, text: &'a [u8], site: &Site) -> &'a [u8]
+    requires { IsInside base (length text.now) site.now }
+    ensures code { result.now ≡ code_at base text.now site.now.at site.now.len }
+    ensures short { length result.now ≤ 5 }
+{
+    let from = (site.at - base) as usize;
+    &text[from..from + usize::from(site.len)]
+}
+
+/// `text BASE SIZE`, the size in bytes, in decimal.
+#[tactic(auto, using(poke_base::proofs::Numbers::line_room))]
+fn text_line(base: u64, text: &[u8]) -> Line
+    ensures { result.items ≡ text_line base text.now }
+{
+    let mut line = Line::new();
+    put_text(&mut line, b"text ");
+    put_hex(&mut line, base);
+    put_text(&mut line, b" ");
+    put_dec(&mut line, text.len() as u64);
+    put_text(&mut line, b"\n");
+    line
+}
