@@ -58,7 +58,7 @@ impl Image {
 
     /// Accepts the module of a file: finds its sites and keys, writes each site that holds one of its early forms
     /// to what it wants with the keys as the file has them, and sweeps the text. It takes time in O(n log n) of
-    /// entries and symbols, and linear in the text. The text ends below the last address.
+    /// entries and symbols, linear in the text, and a look through the sections for each byte of a key.
     ///
     /// # Errors
     /// The first condition that holds, in the order of `Refused`, with its numbers; `NoMemory` may come at any place.
