@@ -9,6 +9,8 @@ mod check_tests;
 mod command;
 mod entry_lines;
 mod fault;
+#[cfg(test)]
+mod image_tests;
 pub mod laws;
 mod make;
 #[cfg(test)]
