@@ -1,5 +1,5 @@
 -- What the sites of an accepted module hold, seen from its file.
-use Rattle.std.proofs.Common.{◌≡◌, ◌∙◌, inl, inr, ℕ, Bool, true, false, cond, List, length, Option, Some, option_map, slice_get, slice_index_or, refl, sym, ap, arith, true≢false}
+use Rattle.std.proofs.Common.{◌≡◌, ◌∙◌, inl, inr, ℕ, Bool, true, false, not, List, length, Option, Some, option_map, slice_get, slice_index_or, refl, sym, ap, arith, true≢false}
 use Rattle.std.specs.Option.{unwrap_or}
 use Rattle.std.proofs.lemmas.Bool.{cases_lt}
 use Rattle.std.proofs.lemmas.Option.{same_Some}
@@ -72,4 +72,4 @@ foreign_hold elf m states i s form is get foreign want spelt =
     let early : is_early s.at s.len s.kind (code_at (base elf) (file_text elf) s.at s.len) ≡ true =
     wanted_early (unwrap_or (tracer_of m) 0) states.keys (slice_index_or states.traced i false) s.at s.len s.kind (code_at (base elf) (file_text elf) s.at s.len)
     (ap (λ (f : Form). spell f s.at) (want_of m states i s form get want) ∙ spelt ∙ ap Some code) in
-    true≢false (sym foreign ∙ foreign_told elf i s there ∙ ap (λ (b : Bool). cond b false true) early)
+    true≢false (sym foreign ∙ foreign_told elf i s there ∙ ap (λ (b : Bool). not b) early)

@@ -71,10 +71,6 @@ abbrev pub start_of : List SectionRecord → KeyClass → ℕ → ℕ
 start_of sections Jump at = loaded_number sections 4 at
 start_of sections Call at = loaded_number sections 8 at
 
--- the count of a static key is negative, as a signed number
-abbrev pub IsNegative : List SectionRecord → ℕ → Type 0
-IsNegative sections at = 2 ^ 31 ≤ start_of sections Jump at
-
 abbrev pub key_of : List SectionRecord → KeyClass → ℕ → Key
 key_of sections class at = record { class = class; at = at; start = start_of sections class at }
 

@@ -1,5 +1,5 @@
 -- The sites of a module, and the text once their early forms are written.
-use Rattle.std.specs.Prelude.{◌==◌, ◌||◌, ℕ, ◌+◌, ◌-◌, Bool, true, false, nat_lt, nat_le, if◌then◌else◌, List, [], ◌∷◌, ◌++◌, length, map, take, drop, Option, Some, None}
+use Rattle.std.specs.Prelude.{◌==◌, ◌||◌, ℕ, ◌+◌, ◌-◌, Bool, not, false, nat_lt, nat_le, if◌then◌else◌, List, [], ◌∷◌, ◌++◌, length, map, take, drop, Option, Some, None}
 use Rattle.std.specs.Option.{unwrap_or}
 use Rattle.std.specs.Str.{bytes_eq}
 use Rattle.elf_module.specs.Elf.{Elf}
@@ -65,7 +65,7 @@ code_at base text at len = take len (drop (at - base) text)
 
 -- what the file holds at a site isn't an early form
 abbrev pub is_foreign : ℕ → List ℕ → ℕ → ℕ → SiteKind → Bool
-is_foreign base text at len kind = if is_early at len kind (code_at base text at len) then false else true
+is_foreign base text at len kind = not (is_early at len kind (code_at base text at len))
 
 -- the site of an entry
 abbrev pub made : ℕ → List ℕ → ℕ → ℕ → SiteKind → Site
