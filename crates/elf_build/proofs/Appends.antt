@@ -1,4 +1,4 @@
--- Several additions as one, and entries one behind the other.
+-- Several additions as one, and entries one after the other.
 use Rattle.std.proofs.Common.{◌≡◌, ◌≤◌, ◌<◌, ◌+◌, ◌-◌, ◌*◌, ◌/◌, replicate, ℕ, Bool, true, false, ◌&&◌, List, [], ◌∷◌, ◌++◌, length, drop, slice_index_or, Result, Ok, Err, OnOk, refl, sym, ap, ◌∙◌, arith, append_assoc}
 use Rattle.std.specs.List.{list_all}
 use Rattle.std.proofs.lemmas.List.{at_drop_more}
@@ -22,13 +22,13 @@ pub and-right : (a b : Bool) → (a && b) ≡ true → b ≡ true
 and-right true b both = both
 and-right false b both = absurd (cc)
 
--- what holds of all that is left holds of the next, and of all behind it
+-- what holds of all that is left holds of the next, and of all after it
 pub all-next : {X : Type 0} (p : X → Bool) (xs : List X) (i : ℕ) (d : X) → i < length xs → list_all p (drop i xs) ≡ true → p (slice_index_or xs i d) ≡ true
 all-next p xs i d below all =
     and-left (p (slice_index_or xs i d)) (list_all p (drop (i + 1) xs)) (sym (at_drop_more (list_all p) xs i d below) ∙ all)
 
-pub all-behind : {X : Type 0} (p : X → Bool) (xs : List X) (i : ℕ) (d : X) → i < length xs → list_all p (drop i xs) ≡ true → list_all p (drop (i + 1) xs) ≡ true
-all-behind p xs i d below all =
+pub all-after : {X : Type 0} (p : X → Bool) (xs : List X) (i : ℕ) (d : X) → i < length xs → list_all p (drop i xs) ≡ true → list_all p (drop (i + 1) xs) ≡ true
+all-after p xs i d below all =
     and-right (p (slice_index_or xs i d)) (list_all p (drop (i + 1) xs)) (sym (at_drop_more (list_all p) xs i d below) ∙ all)
 
 -- one entry more of a table
@@ -60,11 +60,11 @@ headers-more plan parts i d out new headers more whole below before is adds =
     ∙ sym (at_drop_more (λ (r : List Part). headers ++ headers_from plan out r) parts i d below)
     ∙ before
 
--- two additions to a front
-pub appended-front : {T E : Type 0} (front b c middle new : List ℕ) (old : List ℕ) (result : Result T E) → old ≡ front → middle ≡ old ++ b → OnOk result (new ≡ middle ++ c) → OnOk result (new ≡ front ++ b ++ c)
-appended-front front b c middle new old (Ok done) is first second =
+-- two additions to a prefix
+pub appended-prefix : {T E : Type 0} (prefix b c middle new : List ℕ) (old : List ℕ) (result : Result T E) → old ≡ prefix → middle ≡ old ++ b → OnOk result (new ≡ middle ++ c) → OnOk result (new ≡ prefix ++ b ++ c)
+appended-prefix prefix b c middle new old (Ok done) is first second =
     second ∙ ap (λ (xs : List ℕ). xs ++ c) (first ∙ ap (λ (xs : List ℕ). xs ++ b) is)
-appended-front front b c middle new old (Err why) is first second = tt
+appended-prefix prefix b c middle new old (Err why) is first second = tt
 
 -- zeros at its end make a file no shorter
 longer-by : (out more : List ℕ) → length out ≤ length (out ++ more)
@@ -76,7 +76,7 @@ filled-longer out = longer-by out (replicate ((length out + 15) / 16 * 16 - leng
 three-longer : (a b c d : ℕ) → a ≤ b → b ≤ c → c ≤ d → a ≤ d
 three-longer a b c d first second third = omega arith
 
--- what is laid behind a file makes it no shorter
+-- what is laid after a file makes it no shorter
 pub laid-longer : (plan : Plan) (parts : List Part) (out : List ℕ) → length out ≤ length (laid plan out parts)
 laid-longer plan [] out = filled-longer out
 laid-longer plan (part ∷ parts) out =

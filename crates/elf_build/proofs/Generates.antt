@@ -41,7 +41,7 @@ length-block_bytes CallBlock at = refl
 length-block_bytes TraceBlock at = refl
 length-block_bytes TailCall at = refl
 
--- how many bytes so many blocks take, from one on
+-- how many bytes n blocks take, from one on
 abbrev span : ℕ → ℕ → ℕ
 span zero i = 0
 span (suc left) i = block_len (block_of i) + span left (i + 1)
@@ -82,7 +82,7 @@ length-functions_from (suc left) i at =
 
 -- ---- places
 
--- an address from the base on, and less than the text is long behind it
+-- an address from the base on, and less than the text is long after it
 in_text : (plan : Plan) (at : ℕ) → plan.base ≤ at → at < plan.base + length plan.text.items → is_in_text plan at ≡ true
 in_text plan at low high =
     let below : at - plan.base < length plan.text.items = omega arith in

@@ -22,7 +22,7 @@ data_at plan = plan.base + 0x50000
 abbrev pub key_at : Plan → ℕ → ℕ
 key_at plan key = data_at plan + 16 * key
 
--- a field of so many bytes at an address that leads to another
+-- a field of n bytes at an address that leads to another
 abbrev pub lead : ℕ → ℕ → ℕ → List ℕ
 lead bytes field target = little_bytes bytes (target + 2 ^ 64 - field)
 
@@ -42,7 +42,7 @@ entry_bytes Traces plan field (Jump at target key likely) = []
 entry_bytes Traces plan field (Call at key tail) = []
 entry_bytes Traces plan field (Trace at) = little_bytes 8 at
 
--- a table: the entries of the sites, each behind the one before
+-- a table: the entries of the sites, each after the one before
 abbrev pub table_from : (ℕ → PlanSite → List ℕ) → ℕ → List PlanSite → List ℕ
 table_from entry field [] = []
 table_from entry field (site ∷ sites) = entry field site ++ table_from entry (field + length (entry field site)) sites
@@ -79,7 +79,7 @@ abbrev pub symbol : ℕ → ℕ → ℕ → ℕ → ℕ → List ℕ
 symbol name info shndx value size =
     little_bytes 4 name ++ info ∷ 0 ∷ little_bytes 2 shndx ++ little_bytes 8 value ++ little_bytes 8 size
 
--- the symbols of functions and of keys, whose names stand one behind the other from a place on
+-- the symbols of functions and of keys, whose names stand one after the other from a place on
 abbrev pub function_symbols : ℕ → List PlanFunction → List ℕ
 function_symbols name [] = []
 function_symbols name (function ∷ functions) =
@@ -166,7 +166,7 @@ headers_from plan file (part ∷ parts) =
     section_header (header_of plan part) (length (filled file)) (length (content_of plan part))
     ++ headers_from plan (filled file ++ content_of plan part) parts
 
--- the contents, behind the place of the ELF header
+-- the contents, after the place of the ELF header
 abbrev pub body : Plan → List ℕ
 body plan = laid plan (replicate 64 0) parts
 

@@ -55,11 +55,11 @@ block_bytes CallBlock at = 0xe8 ∷ lead 4 (at + 5) fa
 block_bytes TraceBlock at = 0x0f ∷ 0x1f ∷ 0x44 ∷ 0x00 ∷ 0x00 ∷ []
 block_bytes TailCall at = 0xe8 ∷ 0x02 ∷ 0x00 ∷ 0x00 ∷ 0x00 ∷ 0xeb ∷ 0x05 ∷ 0xe9 ∷ lead 4 (at + 12) fb
 
--- behind the blocks: dec ecx; a jump back to the first block while it isn't zero; out 10, al; ret
+-- after the blocks: dec ecx; a jump back to the first block while it isn't zero; out 10, al; ret
 abbrev pub end_bytes : ℕ → List ℕ
 end_bytes at = (0xff ∷ 0xc9 ∷ 0x0f ∷ 0x85 ∷ lead 4 (at + 8) blocks) ++ 0xe6 ∷ 0x10 ∷ 0xc3 ∷ []
 
--- the blocks that are left, from this one and its address on, and what stands behind them
+-- the blocks that are left, from this one and its address on, and what stands after them
 abbrev pub text_from : ℕ → ℕ → ℕ → List ℕ
 text_from zero i at = end_bytes at
 text_from (suc left) i at = block_bytes (block_of i) at ++ text_from left (i + 1) (at + block_len (block_of i))

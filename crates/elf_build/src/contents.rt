@@ -117,7 +117,7 @@ pub fn add_data(out: &mut Vec<u8>, keys: &[PlanKey]) -> Result<(), NoMemory>
     Ok(())
 }
 
-/// Adds the symbols of functions, whose names stand one behind the other from a place on.
+/// Adds the symbols of functions, whose names stand one after the other from a place on.
 fn add_function_symbols(out: &mut Vec<u8>, functions: &[PlanFunction]) -> Result<u32, NoMemory>
     requires { length functions.now ≤ 2048 }
     ensures symbols { IfOk result (λ name. out.new.items ≡ out.old.items ++ function_symbols 1 functions.now) }
@@ -135,7 +135,7 @@ fn add_function_symbols(out: &mut Vec<u8>, functions: &[PlanFunction]) -> Result
     Ok(name)
 }
 
-/// Adds the symbols of keys, whose names stand one behind the other from a place on.
+/// Adds the symbols of keys, whose names stand one after the other from a place on.
 fn add_key_symbols(out: &mut Vec<u8>, first: u32, at: u64, keys: &[PlanKey]) -> Result<(), NoMemory>
     requires few { length keys.now ≤ 1024 }
     requires low { first ≤ 1 + 65 * 2048 }

@@ -99,8 +99,8 @@ fn add_parts(
     fill(out)
 }
 
-/// Puts bytes into the front of a file.
-fn put_front(file: &mut [u8], bytes: &[u8])
+/// Puts bytes into the prefix of a file.
+fn put_prefix(file: &mut [u8], bytes: &[u8])
     requires { length bytes.now ≤ length file.old }
     ensures { file.new ≡ bytes.now ++ drop (length bytes.now) file.old }
 {
@@ -113,7 +113,7 @@ fn put_header(out: &mut Vec<u8>)
     ensures { out.new.items ≡ elf_header (length out.old.items) ++ drop 64 out.old.items }
 {
     let header = elf_header(out.len() as u64);
-    put_front(out.as_mut_slice(), &header);
+    put_prefix(out.as_mut_slice(), &header);
 }
 
 /// Writes the ELF header and the contents of the sections, and gathers their headers.
@@ -147,7 +147,7 @@ fn write_file(plan: &Plan, out: &mut Vec<u8>) -> Result<(), NoMemory>
 /// to be empty.
 ///
 /// # Errors
-/// Want of memory, after which `out` is empty.
+/// Out of memory, after which `out` is empty.
 pub fn write(plan: &Plan, out: &mut Vec<u8>) -> Result<(), NoMemory>
     requires fits { fits plan.now ≡ true }
     requires empty { out.old.items ≡ [] }

@@ -127,7 +127,7 @@ impl Block {
 /// bytes by two keys, static calls, static tail calls, and traced functions.
 ///
 /// # Errors
-/// Want of memory.
+/// Out of memory.
 pub fn generated(alloc: Global, n: u32) -> Result<Plan, NoMemory>
     requires few { 10 ≤ n }
     requires many { n ≤ 1000 }
@@ -160,7 +160,7 @@ fn text(alloc: Global, n: u32) -> Result<Vec<u8>, NoMemory>
     Ok(out)
 }
 
-/// What stands behind the blocks: `dec ecx`, a jump back while it isn't zero, `out 10, al`, `ret`.
+/// What stands after the blocks: `dec ecx`, a jump back while it isn't zero, `out 10, al`, `ret`.
 fn end(at: u64) -> Record
     requires { at + 8 < 2 ^ 64 }
     ensures { result.items ≡ end_bytes at }

@@ -1,4 +1,4 @@
-//! Records of a file: headers, symbols and entries, byte behind byte.
+//! Records of a file: headers, symbols and entries, byte after byte.
 ghost use Rattle.std.specs.Prelude.{◌≡◌, ◌≤◌, ◌+◌, ◌%◌, ◌^◌, ◌++◌, length};
 ghost use Rattle.arrayvec.specs.ArrayVec.{array_vec_len};
 ghost use Rattle.byteorder.specs.Endian.{little_bytes};

@@ -84,7 +84,7 @@ pub fn call_record(field: u64, at: u64, key: u64) -> Record
     out
 }
 
-/// Where the tables and the keys stand behind the text's address.
+/// Where the tables and the keys stand after the text's address.
 const JUMPS: u64 = 0x2_0000;
 
 const CALLS: u64 = 0x3_0000;

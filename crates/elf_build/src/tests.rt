@@ -185,7 +185,7 @@ fn plans_with_other_keys_do_not_fit(rt: HostRuntime) -> Result<(), Fail> {
     Ok(())
 }
 
-/// A plan of one byte at a place, with so many keys and functions.
+/// A plan of one byte at a place, with n keys and functions.
 fn empty_plan(alloc: Global, base: u64, keys: u32, functions: u32) -> Result<Plan, Fail> {
     let mut plan = Plan {
         base,

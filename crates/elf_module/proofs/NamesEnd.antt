@@ -23,7 +23,7 @@ has_name-before_end table end some within none last at = (before, has)
         let place : at + (end - 1 - at) ≡ end - 1 = omega arith in
         (end - 1 - at, omega (arith, length-drop at table), get_or-drop at table (end - 1 - at) 0 ∙ ap (λ k. get_or table k 0) place ∙ last)
 
--- what stands before the first byte that passes, in the front of a text
+-- what stands before the first byte that passes, in the prefix of a text
 before_first-take : (p : ℕ → Bool) (n : ℕ) (bytes : List ℕ) → before_first p (take n bytes) ≡ take n (before_first p bytes)
 before_first-take p zero bytes = refl
 before_first-take p (suc n) [] = refl
@@ -34,14 +34,14 @@ before_first-take p (suc n) (byte ∷ bytes) = step (p byte) refl (before_first-
     step true e rest = rw e refl
     step false e rest = rw e (simp one-add (ap (λ l. byte ∷ l) rest))
 
--- a text is compared with a shorter one by its front
+-- a text is compared with a shorter one by its prefix
 bytes_eq-take : (n : ℕ) (bytes name : List ℕ) → length name < n → bytes_eq (take n bytes) name ≡ bytes_eq bytes name
 bytes_eq-take zero bytes name lt = absurd (omega arith)
 bytes_eq-take (suc n) [] name lt = refl
 bytes_eq-take (suc n) (byte ∷ bytes) [] lt = refl
 bytes_eq-take (suc n) (byte ∷ bytes) (first ∷ name) lt = ap (λ r. nat_eq byte first && r) (bytes_eq-take n bytes name (omega arith))
 
--- a name is compared by a front of the table that is longer than it
+-- a name is compared by a prefix of the table that is longer than it
 pub same_name-take : (p : ℕ → Bool) (n : ℕ) (bytes name : List ℕ) → length name < n
     → bytes_eq (before_first p (take n bytes)) name ≡ bytes_eq (before_first p bytes) name
 same_name-take p n bytes name lt = rw (before_first-take p n bytes) (bytes_eq-take n (before_first p bytes) name lt)

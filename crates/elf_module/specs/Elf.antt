@@ -5,11 +5,11 @@ use Rattle.byteorder.specs.Endian.{little_number}
 use Rattle.elf_module.specs.declared.records.Section.{Section}
 use Rattle.elf_module.specs.declared.records.Symbol.{Symbol}
 
--- the number in so many bytes at an offset, the lowest first
+-- the number in n bytes at an offset, the lowest first
 unfoldable pub field : ℕ → ℕ → List ℕ → ℕ
 field bytes at file = little_number bytes (drop at file)
 
--- so many bytes of a file from an offset on
+-- n bytes of a file from an offset on
 abbrev pub piece : ℕ → ℕ → List ℕ → List ℕ
 piece at size file = take size (drop at file)
 

@@ -40,7 +40,7 @@ pub(crate) fn u64_at(bytes: &[u8], at: usize) -> u64
     LittleEndian::read_u64(&bytes[at..])
 }
 
-/// Whether so many bytes at an offset end past a length. The sum doesn't wrap.
+/// Whether n bytes at an offset end past a length. The sum doesn't wrap.
 pub(crate) fn ends_past(offset: u64, size: u64, len: u64) -> bool
     ensures { IsTrue result ↔ (len < offset + size) }
 {

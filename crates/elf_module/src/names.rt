@@ -5,7 +5,7 @@ ghost use Rattle.std.specs.Str.{bytes_eq};
 ghost use Rattle.elf_module.specs.Elf.{name_in};
 ghost use Rattle.elf_module.specs.Refusals.{HasName};
 
-/// The place behind the last zero of a string table, 0 where it has none. A name stands in the
+/// The place after the last zero of a string table, 0 where it has none. A name stands in the
 /// table with its ending zero exactly where it begins before that place.
 pub(crate) fn names_end(table: &[u8]) -> usize
     ensures { (at : ℕ) → HasName table.now at ↔ (at < result) }

@@ -72,7 +72,7 @@ fn reads_a_module(rt: HostRuntime) {
 }
 
 #[test]
-fn refuses_each_front(rt: HostRuntime) {
+fn refuses_each_prefix(rt: HostRuntime) {
     for len in 0..MODULE.len() {
         let why = if len < 64 {
             ElfRefused::Short(len as u64)

@@ -4,7 +4,7 @@ use Rattle.std.specs.List.{starts_with}
 use Rattle.std.specs.Cmp.Lexicographic.{same_text, other_text}
 use Rattle.std.proofs.lemmas.Bool.Decides.{nat_tests}
 use Rattle.std.proofs.lemmas.Option.{same_Some, none-some}
-use Rattle.poke_base.specs.Text.{IsFront}
+use Rattle.poke_base.specs.Text.{IsPrefix}
 use Rattle.insn_forms.specs.declared.forms.Form.{Form}
 use Rattle.insn_forms.specs.Spelling.{size, spell, BeginsWith}
 use Rattle.insn_forms.proofs.Spellings.{size_pos, size-begins, named, named_begins}
@@ -55,10 +55,10 @@ unspelt form at bytes none begins = none-some _ (sym none ∙ begins.spelt)
 -- bytes that start with the spelling of a form, as the test says
 pub starts : (form : Form) (at : ℕ) (bytes code piece : List ℕ) → spell form at ≡ Some code → piece ≡ code → true ≡ starts_with nat_eq bytes piece → BeginsWith form at bytes
 starts form at bytes code piece spelt same test =
-    record { code = piece; spelt = spelt ∙ ap Some (sym same); front = sym (same_text piece (take (length piece) bytes) test) }
+    record { code = piece; spelt = spelt ∙ ap Some (sym same); prefix = sym (same_text piece (take (length piece) bytes) test) }
 
 -- bytes that don't start with the spelling of a form, as the test says
 pub starts_otherwise : (form : Form) (at : ℕ) (bytes code piece : List ℕ) → spell form at ≡ Some code → piece ≡ code → false ≡ starts_with nat_eq bytes piece → BeginsWith form at bytes → ⊥
 starts_otherwise form at bytes code piece spelt same test begins =
     let equal : begins.code ≡ piece = same_Some _ _ (sym begins.spelt ∙ spelt) ∙ sym same in
-    other_text piece (take (length piece) bytes) test (sym (subst (λ list. IsFront list bytes) equal begins.front))
+    other_text piece (take (length piece) bytes) test (sym (subst (λ list. IsPrefix list bytes) equal begins.prefix))

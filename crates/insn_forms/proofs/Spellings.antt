@@ -7,11 +7,11 @@ use Rattle.std.proofs.Math.Seq.{take-length}
 use Rattle.std.proofs.lemmas.Bool.Decides.{Decides-eqb}
 use Rattle.std.proofs.lemmas.List.Elements.{All-cons}
 use Rattle.std.proofs.lemmas.Option.{same_Some, none-some}
-use Rattle.poke_base.specs.Text.{IsFront}
+use Rattle.poke_base.specs.Text.{IsPrefix}
 use Rattle.insn_forms.specs.declared.forms.Form.{Form}
 use Rattle.insn_forms.specs.declared.forms.Form.TheVariants.{Nop2, Nop5, Jmp8, Jmp32, Call, Ret}
 use Rattle.insn_forms.specs.Displacement.{leads, distance, displacement}
-use Rattle.insn_forms.specs.Spelling.{size, behind, spell, BeginsWith}
+use Rattle.insn_forms.specs.Spelling.{size, after, spell, BeginsWith}
 
 -- the bytes of a displacement, where there is one, lead to the target
 pub record IsRelative (w : Width) (opcode from to : ℕ) (code : List ℕ) : Type 0 where
@@ -104,15 +104,15 @@ spell-bytes Ret at code e =
     subst (All IsByte) (same_Some _ _ e)
     (bytes_5 _ _ _ _ _ (omega arith) (omega arith) (omega arith) (omega arith) (omega arith))
 
--- where the byte behind the first leads
+-- where the byte after the first leads
 abbrev pub near : ℕ → List ℕ → ℕ
-near at bytes = leads w8 (behind at 2) (slice_index bytes 1 ∷ [])
+near at bytes = leads w8 (after at 2) (slice_index bytes 1 ∷ [])
 
--- where the four bytes behind the first lead
+-- where the four bytes after the first lead
 abbrev pub far : ℕ → List ℕ → ℕ
-far at bytes = leads w32 (behind at 5) (slice_range bytes 1 5)
+far at bytes = leads w32 (after at 5) (slice_range bytes 1 5)
 
--- the form that the first byte and a displacement behind it name
+-- the form that the first byte and a displacement after it name
 abbrev pub named : ℕ → ℕ → List ℕ → Option Form
 named opcode at bytes =
     if opcode == 0x66 then Some Nop2
@@ -123,35 +123,35 @@ named opcode at bytes =
     else if opcode == 0xc3 then Some Ret
     else None
 
--- an element of a front
-front_at : (code bytes : List ℕ) (i : ℕ) → IsFront code bytes → i < length code → slice_index bytes i ≡ slice_index code i
-front_at code bytes i front below =
-    sym (get_or-take (length code) bytes i 0 below) ∙ ap (λ list. slice_index list i) front
+-- an element of a prefix
+prefix_at : (code bytes : List ℕ) (i : ℕ) → IsPrefix code bytes → i < length code → slice_index bytes i ≡ slice_index code i
+prefix_at code bytes i prefix below =
+    sym (get_or-take (length code) bytes i 0 below) ∙ ap (λ list. slice_index list i) prefix
 
--- a front is no longer than the whole
-pub front-length : (code bytes : List ℕ) → IsFront code bytes → length code ≤ length bytes
-front-length code bytes front = omega (arith, length-take (length code) bytes, ap length front)
+-- a prefix is no longer than the whole
+pub prefix-length : (code bytes : List ℕ) → IsPrefix code bytes → length code ≤ length bytes
+prefix-length code bytes prefix = omega (arith, length-take (length code) bytes, ap length prefix)
 
--- what stands behind the first byte of a front
-front-rest : (opcode : ℕ) (rest bytes : List ℕ) → IsFront (opcode ∷ rest) bytes → slice_range bytes 1 (suc (length rest)) ≡ rest
-front-rest opcode rest [] front = absurd (grind arith)
-front-rest opcode rest (byte ∷ bytes) front =
+-- what stands after the first byte of a prefix
+prefix-rest : (opcode : ℕ) (rest bytes : List ℕ) → IsPrefix (opcode ∷ rest) bytes → slice_range bytes 1 (suc (length rest)) ≡ rest
+prefix-rest opcode rest [] prefix = absurd (grind arith)
+prefix-rest opcode rest (byte ∷ bytes) prefix =
     let same : suc (length rest) - 1 ≡ length rest = omega arith in rw same (cc)
 
 -- what the bytes that begin with an opcode and a displacement of one byte name
-named_near : (opcode at target : ℕ) (code bytes : List ℕ) → IsRelative w8 opcode (behind at 2) target code → IsFront code bytes → (slice_index bytes 0 ≡ opcode) × (near at bytes ≡ target)
-named_near opcode at target code bytes r front =
-    let whole : IsFront (opcode ∷ to_le_bytes w8 (distance (behind at 2) target)) bytes = subst (λ list. IsFront list bytes) r.bytes front in (
-      front_at _ bytes 0 whole (omega arith),
-      ap (λ byte. leads w8 (behind at 2) (byte ∷ [])) (front_at _ bytes 1 whole (omega arith)) ∙ r.leads_to,
+named_near : (opcode at target : ℕ) (code bytes : List ℕ) → IsRelative w8 opcode (after at 2) target code → IsPrefix code bytes → (slice_index bytes 0 ≡ opcode) × (near at bytes ≡ target)
+named_near opcode at target code bytes r prefix =
+    let whole : IsPrefix (opcode ∷ to_le_bytes w8 (distance (after at 2) target)) bytes = subst (λ list. IsPrefix list bytes) r.bytes prefix in (
+      prefix_at _ bytes 0 whole (omega arith),
+      ap (λ byte. leads w8 (after at 2) (byte ∷ [])) (prefix_at _ bytes 1 whole (omega arith)) ∙ r.leads_to,
     )
 
 -- what the bytes that begin with an opcode and a displacement of four bytes name
-named_far : (opcode at target : ℕ) (code bytes : List ℕ) → IsRelative w32 opcode (behind at 5) target code → IsFront code bytes → (slice_index bytes 0 ≡ opcode) × (far at bytes ≡ target)
-named_far opcode at target code bytes r front =
-    let whole : IsFront (opcode ∷ to_le_bytes w32 (distance (behind at 5) target)) bytes = subst (λ list. IsFront list bytes) r.bytes front in
-    let same : slice_range bytes 1 5 ≡ to_le_bytes w32 (distance (behind at 5) target) = front-rest opcode _ bytes whole in
-    (front_at _ bytes 0 whole (omega arith), ap (λ rel. leads w32 (behind at 5) rel) same ∙ r.leads_to)
+named_far : (opcode at target : ℕ) (code bytes : List ℕ) → IsRelative w32 opcode (after at 5) target code → IsPrefix code bytes → (slice_index bytes 0 ≡ opcode) × (far at bytes ≡ target)
+named_far opcode at target code bytes r prefix =
+    let whole : IsPrefix (opcode ∷ to_le_bytes w32 (distance (after at 5) target)) bytes = subst (λ list. IsPrefix list bytes) r.bytes prefix in
+    let same : slice_range bytes 1 5 ≡ to_le_bytes w32 (distance (after at 5) target) = prefix-rest opcode _ bytes whole in
+    (prefix_at _ bytes 0 whole (omega arith), ap (λ rel. leads w32 (after at 5) rel) same ∙ r.leads_to)
 
 -- the form that the bytes name, read from their first byte
 abbrev pub named_form : ℕ → List ℕ → Option Form
@@ -161,23 +161,23 @@ named_form at bytes = named (slice_index bytes 0) at bytes
 pub named_begins : (form : Form) (at : ℕ) (bytes : List ℕ) → BeginsWith form at bytes → named_form at bytes ≡ Some form
 unfolding spell
 named_begins Nop2 at bytes begins =
-    let whole : IsFront (0x66 ∷ 0x90 ∷ []) bytes = subst (λ list. IsFront list bytes) (sym (same_Some _ _ begins.spelt)) begins.front in
-    ap (λ opcode. named opcode at bytes) (front_at _ bytes 0 whole (omega arith))
+    let whole : IsPrefix (0x66 ∷ 0x90 ∷ []) bytes = subst (λ list. IsPrefix list bytes) (sym (same_Some _ _ begins.spelt)) begins.prefix in
+    ap (λ opcode. named opcode at bytes) (prefix_at _ bytes 0 whole (omega arith))
 named_begins Nop5 at bytes begins =
-    let whole : IsFront (0x0f ∷ 0x1f ∷ 0x44 ∷ 0x00 ∷ 0x00 ∷ []) bytes = subst (λ list. IsFront list bytes) (sym (same_Some _ _ begins.spelt)) begins.front in
-    ap (λ opcode. named opcode at bytes) (front_at _ bytes 0 whole (omega arith))
+    let whole : IsPrefix (0x0f ∷ 0x1f ∷ 0x44 ∷ 0x00 ∷ 0x00 ∷ []) bytes = subst (λ list. IsPrefix list bytes) (sym (same_Some _ _ begins.spelt)) begins.prefix in
+    ap (λ opcode. named opcode at bytes) (prefix_at _ bytes 0 whole (omega arith))
 named_begins (Jmp8 target) at bytes begins =
-    let parts = named_near _ _ _ _ bytes (relative w8 _ _ _ _ begins.spelt) begins.front in
+    let parts = named_near _ _ _ _ bytes (relative w8 _ _ _ _ begins.spelt) begins.prefix in
     ap (λ opcode. named opcode at bytes) parts.0 ∙ ap (λ to. Some (Jmp8 to)) parts.1
 named_begins (Jmp32 target) at bytes begins =
-    let parts = named_far _ _ _ _ bytes (relative w32 _ _ _ _ begins.spelt) begins.front in
+    let parts = named_far _ _ _ _ bytes (relative w32 _ _ _ _ begins.spelt) begins.prefix in
     ap (λ opcode. named opcode at bytes) parts.0 ∙ ap (λ to. Some (Jmp32 to)) parts.1
 named_begins (Call target) at bytes begins =
-    let parts = named_far _ _ _ _ bytes (relative w32 _ _ _ _ begins.spelt) begins.front in
+    let parts = named_far _ _ _ _ bytes (relative w32 _ _ _ _ begins.spelt) begins.prefix in
     ap (λ opcode. named opcode at bytes) parts.0 ∙ ap (λ to. Some (Call to)) parts.1
 named_begins Ret at bytes begins =
-    let whole : IsFront (0xc3 ∷ 0xcc ∷ 0xcc ∷ 0xcc ∷ 0xcc ∷ []) bytes = subst (λ list. IsFront list bytes) (sym (same_Some _ _ begins.spelt)) begins.front in
-    ap (λ opcode. named opcode at bytes) (front_at _ bytes 0 whole (omega arith))
+    let whole : IsPrefix (0xc3 ∷ 0xcc ∷ 0xcc ∷ 0xcc ∷ 0xcc ∷ []) bytes = subst (λ list. IsPrefix list bytes) (sym (same_Some _ _ begins.spelt)) begins.prefix in
+    ap (λ opcode. named opcode at bytes) (prefix_at _ bytes 0 whole (omega arith))
 
 -- bytes begin with the spelling of at most one form
 pub same_form : (f g : Form) (at : ℕ) (bytes : List ℕ) → BeginsWith f at bytes → BeginsWith g at bytes → f ≡ g
@@ -186,16 +186,16 @@ same_form f g at bytes p q = same_Some f g (sym (named_begins f at bytes p) ∙ 
 -- two forms of one spelling are equal
 pub same_spelling : (f g : Form) (at : ℕ) (code : List ℕ) → spell f at ≡ Some code → spell g at ≡ Some code → f ≡ g
 same_spelling f g at code p q =
-    same_form f g at code (record { code = code; spelt = p; front = take-length code })
-    (record { code = code; spelt = q; front = take-length code })
+    same_form f g at code (record { code = code; spelt = p; prefix = take-length code })
+    (record { code = code; spelt = q; prefix = take-length code })
 
 -- a spelling that is how another begins is that of the same form
-pub same_front : (f g : Form) (at : ℕ) (shorter longer : List ℕ) → spell f at ≡ Some shorter → spell g at ≡ Some longer → IsFront shorter longer → f ≡ g
-same_front f g at shorter longer p q front =
-    same_form f g at longer (record { code = shorter; spelt = p; front = front })
-    (record { code = longer; spelt = q; front = take-length longer })
+pub same_prefix : (f g : Form) (at : ℕ) (shorter longer : List ℕ) → spell f at ≡ Some shorter → spell g at ≡ Some longer → IsPrefix shorter longer → f ≡ g
+same_prefix f g at shorter longer p q prefix =
+    same_form f g at longer (record { code = shorter; spelt = p; prefix = prefix })
+    (record { code = longer; spelt = q; prefix = take-length longer })
 
 -- bytes that begin with a spelling are no fewer than its form takes
 pub size-begins : (form : Form) (at : ℕ) (bytes : List ℕ) → BeginsWith form at bytes → size form ≤ length bytes
 size-begins form at bytes begins =
-    omega (arith, length-spell form at begins.code begins.spelt, front-length begins.code bytes begins.front)
+    omega (arith, length-spell form at begins.code begins.spelt, prefix-length begins.code bytes begins.prefix)

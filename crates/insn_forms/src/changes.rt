@@ -1,4 +1,4 @@
-//! A list of changes with room for so many.
+//! A list of changes with room for n.
 ghost use Rattle.std.specs.Prelude.{◌≡◌, ◌<◌, [], ◌∷◌, ◌++◌, IfOk, length};
 
 use crate::Change;
@@ -25,7 +25,7 @@ impl Changes {
     /// An empty list with room for `n` changes.
     ///
     /// # Errors
-    /// Want of memory.
+    /// Out of memory.
     pub fn with_room(alloc: Global, n: u32) -> Result<Changes, NoMemory>
         ensures empty { IfOk result (λ changes. changes.list ≡ []) }
         ensures room { IfOk result (λ changes. changes.room ≡ n) }

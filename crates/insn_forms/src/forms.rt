@@ -3,7 +3,7 @@ ghost use Rattle.std.specs.Prelude.{◌≡◌, ◌≤◌, ◌↔◌, ◌∷◌, 
 ghost use Rattle.std.specs.Int.{w8, w32};
 ghost use Rattle.std.specs.Option.{SomeIff};
 ghost use Rattle.insn_forms.specs.Displacement.{leads};
-ghost use Rattle.insn_forms.specs.Spelling.{size, behind, spell, BeginsWith};
+ghost use Rattle.insn_forms.specs.Spelling.{size, after, spell, BeginsWith};
 
 use crate::displacement::{displacement8, displacement32, target8, target32};
 use poke_base::CodeBytes;
@@ -114,16 +114,16 @@ fn candidate(at: u64, bytes: &[u8]) -> Option<Form>
 /// Where a displacement of one byte, the second of an instruction, leads. `None` exactly where the
 /// bytes end before it.
 fn near_target(at: u64, bytes: &[u8]) -> Option<u64>
-    ensures { SomeIff result (2 ≤ length bytes.now) (leads w8 (behind at 2) (slice_index bytes.now 1 ∷ [])) }
+    ensures { SomeIff result (2 ≤ length bytes.now) (leads w8 (after at 2) (slice_index bytes.now 1 ∷ [])) }
 {
     let rel8 = bytes.get(1)?;
     Some(target8(at.wrapping_add(2), *rel8))
 }
 
-/// Where a displacement of four bytes, those behind the first of an instruction, leads. `None`
+/// Where a displacement of four bytes, those after the first of an instruction, leads. `None`
 /// exactly where the bytes end before it does.
 fn far_target(at: u64, bytes: &[u8]) -> Option<u64>
-    ensures { SomeIff result (5 ≤ length bytes.now) (leads w32 (behind at 5) (slice_range bytes.now 1 5)) }
+    ensures { SomeIff result (5 ≤ length bytes.now) (leads w32 (after at 5) (slice_range bytes.now 1 5)) }
 {
     let rel32 = bytes.get(1..5)?.try_into().ok()?;
     Some(target32(at.wrapping_add(5), rel32))

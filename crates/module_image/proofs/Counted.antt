@@ -10,7 +10,7 @@ use Rattle.module_image.specs.Refusals.{IsRefusedFor}
 use Rattle.module_image.specs.Tables.{is_text_in}
 use Rattle.module_image.proofs.Passed.{passes_first}
 
--- so many of the first sections have the text's name
+-- n of the first sections have the text's name
 pub record AreCounted (sections : List SectionRecord) (i count : ℕ) : Type 0 where
   pub is : count ≡ length (filter is_text (take i sections))
   pub few : count ≤ i

@@ -3,7 +3,7 @@ use Rattle.std.proofs.Common.{◌≡◌, ◌∙◌, ◌<◌, ◌+◌, ◌-◌, �
 use Rattle.std.specs.Prelude.{slice_index}
 use Rattle.std.proofs.lemmas.Bool.{cases_eq, eqb-false}
 use Rattle.std.proofs.lemmas.List.{length-set}
-use Rattle.insn_forms.specs.Spelling.{behind}
+use Rattle.insn_forms.specs.Spelling.{after}
 use Rattle.x64_subset.specs.declared.insn.AluOp.{AluOp}
 use Rattle.x64_subset.specs.declared.insn.AluOp.TheVariants.{Add, Sub, Xor, Cmp, Test, Mov}
 use Rattle.x64_subset.specs.declared.proc.Proc.{Proc}
@@ -43,15 +43,15 @@ operated_beside Test rm source p = record { stack = refl; depth = refl; place = 
 operated_beside Mov rm source p = record { stack = refl; depth = refl; place = refl }
 
 -- it goes on to the next unit
-pub goes_flows : (t : Layout) (p q : Proc) (len : ℕ) → IsBeside p q → IsStart t (behind p.ip len) → Flows t p → Flows t (goes_on len q).0
+pub goes_flows : (t : Layout) (p q : Proc) (len : ℕ) → IsBeside p q → IsStart t (after p.ip len) → Flows t p → Flows t (goes_on len q).0
 goes_flows t p q len beside start flows =
-    moves t p (at_ip (next len q) q) beside.stack beside.depth (subst (λ (ip : ℕ). IsStart t (behind ip len)) (sym beside.place) start) flows
+    moves t p (at_ip (next len q) q) beside.stack beside.depth (subst (λ (ip : ℕ). IsStart t (after ip len)) (sym beside.place) start) flows
 
 -- it jumps to a start
 pub jumps_flows : (t : Layout) (p : Proc) (target : ℕ) → IsStart t target → Flows t p → Flows t (jumps target p).0
 jumps_flows t p target start flows = moves t p (at_ip target p) refl refl start flows
 
-pub either_flows : (t : Layout) (p : Proc) (target len : ℕ) (taken : Bool) → IsStart t target → IsStart t (behind p.ip len) → Flows t p → Flows t (if taken then jumps target p else goes_on len p).0
+pub either_flows : (t : Layout) (p : Proc) (target len : ℕ) (taken : Bool) → IsStart t target → IsStart t (after p.ip len) → Flows t p → Flows t (if taken then jumps target p else goes_on len p).0
 either_flows t p target len true to start flows = jumps_flows t p target to flows
 either_flows t p target len false to start flows = goes_flows t p p len (record { stack = refl; depth = refl; place = refl }) start flows
 
@@ -74,7 +74,7 @@ pushed_start t p back below start flows i lt =
     ]
 
 -- it calls what begins at a start, and returns to one
-pub calls_flows : (t : Layout) (p : Proc) (target len : ℕ) → IsStart t target → IsStart t (behind p.ip len) → Flows t p → Flows t (calls target len p).0
+pub calls_flows : (t : Layout) (p : Proc) (target len : ℕ) → IsStart t target → IsStart t (after p.ip len) → Flows t p → Flows t (calls target len p).0
 calls_flows t p target len to start flows = by (p.depth == 64) refl
   where
     by : (full : Bool) → (p.depth == 64) ≡ full → Flows t (if full then ends (Fault Depth) p else (record p { stack = slice_set p.stack p.depth (next len p); depth = p.depth + 1; ip = target }, NoMark)).0

@@ -2,7 +2,7 @@
 use Rattle.std.proofs.Common.{◌≡◌, ◌∙◌, ◌<◌, ◌≤◌, ◌+◌, ◌^◌, inl, inr, ℕ, false, List, length, Some, slice_get, sym, ap, subst, arith}
 use Rattle.std.proofs.lemmas.Bool.{cases_lt}
 use Rattle.elf_module.specs.Elf.{Elf}
-use Rattle.insn_forms.specs.Spelling.{behind}
+use Rattle.insn_forms.specs.Spelling.{after}
 use Rattle.x64_subset.specs.declared.insn.Insn.{Insn}
 use Rattle.module_image.specs.declared.refused.Refused.TheVariants.{EndFalls}
 use Rattle.module_image.specs.declared.site.Site.{Site}
@@ -55,32 +55,32 @@ module_leads elf m is =
     subst (λ (t : Layout). AllLead t (jump_aims (sites elf)) (key_aims (keys elf)) (function_aims (functions elf))) (same_layout elf m is) is.leads
 
 -- addresses inside a text that ends below the last address don't wrap
-no_wrap : (at len : ℕ) → at + len < 2 ^ 64 → at + len ≡ behind at len
+no_wrap : (at len : ℕ) → at + len < 2 ^ 64 → at + len ≡ after at len
 no_wrap at len below = omega (arith, below)
 
 -- where a unit goes on, the next one begins
-next_start : (t : Layout) (units : List Unit) (at : ℕ) → IsGround t units → text_end t < 2 ^ 64 → IsStart t at → at + unit_len t (unit_at t at) ≤ text_end t → may_end t (unit_at t at) ≡ false → IsStart t (behind at (unit_len t (unit_at t at)))
+next_start : (t : Layout) (units : List Unit) (at : ℕ) → IsGround t units → text_end t < 2 ^ 64 → IsStart t at → at + unit_len t (unit_at t at) ≤ text_end t → may_end t (unit_at t at) ≡ false → IsStart t (after at (unit_len t (unit_at t at)))
 next_start t units at ground below start within falls =
     let there = noted_unit t units at ground.swept start in
     elim (cases_lt (at + unit_len t (unit_at t at)) (text_end t)) [
-      | inl inside ↦ the_end at (behind at (unit_len t (unit_at t at))) start there.3 (no_wrap at (unit_len t (unit_at t at)) (omega (arith, inside, below))) (let same = no_wrap at (unit_len t (unit_at t at)) (omega (arith, inside, below)) in omega (arith, same, inside))
+      | inl inside ↦ the_end at (after at (unit_len t (unit_at t at))) start there.3 (no_wrap at (unit_len t (unit_at t at)) (omega (arith, inside, below))) (let same = no_wrap at (unit_len t (unit_at t at)) (omega (arith, inside, below)) in omega (arith, same, inside))
       | inr outside ↦ absurd (ground.ends at (record { start = start; last = omega (arith, within, outside); falls = falls }))
     ]
 
-pub plain_next : (t : Layout) (units : List Unit) (at : ℕ) (insn : Insn) (len : ℕ) → IsGround t units → text_end t < 2 ^ 64 → IsStart t at → unit_at t at ≡ Plain insn len → never_falls insn ≡ false → IsStart t (behind at len)
+pub plain_next : (t : Layout) (units : List Unit) (at : ℕ) (insn : Insn) (len : ℕ) → IsGround t units → text_end t < 2 ^ 64 → IsStart t at → unit_at t at ≡ Plain insn len → never_falls insn ≡ false → IsStart t (after at len)
 plain_next t units at insn len ground below start unit falls =
     let size : unit_len t (unit_at t at) ≡ len = ap (unit_len t) unit in
     let within = (unit_plain t at insn len unit).inside in
-    subst (λ (n : ℕ). IsStart t (behind at n)) size
+    subst (λ (n : ℕ). IsStart t (after at n)) size
     (next_start t units at ground below start (omega (arith, size, within)) (ap (may_end t) unit ∙ falls))
 
-pub site_next : (t : Layout) (units : List Unit) (i : ℕ) (s : Site) → IsGround t units → text_end t < 2 ^ 64 → slice_get t.sites i ≡ Some s → s.foreign ≡ false → is_tail_site (Some s) ≡ false → IsStart t (behind s.at s.len)
+pub site_next : (t : Layout) (units : List Unit) (i : ℕ) (s : Site) → IsGround t units → text_end t < 2 ^ 64 → slice_get t.sites i ≡ Some s → s.foreign ≡ false → is_tail_site (Some s) ≡ false → IsStart t (after s.at s.len)
 site_next t units i s ground below here ours falls =
     let start = site_starts_swept t units i s ground.inside ground.apart ground.swept here ours in
     let unit = site_unit t i s ground.inside ground.apart here ours in
     let size : unit_len t (unit_at t s.at) ≡ s.len = ap (unit_len t) unit ∙ ap len_of here in
     let within = (ground.inside i s here).to in
-    subst (λ (n : ℕ). IsStart t (behind s.at n)) size
+    subst (λ (n : ℕ). IsStart t (after s.at n)) size
     (next_start t units s.at ground below start (omega (arith, size, within)) (ap (may_end t) unit ∙ ap is_tail_site here ∙ falls))
 
 -- a site that isn't foreign begins at a start

@@ -19,7 +19,7 @@ value_of-append q (x ∷ xs) ys = step (bytes_eq q x.0) (value_of-append q xs ys
     step true rest = refl
     step false rest = rest
 
--- lists in which names stand for the same do so with more behind them
+-- lists in which names stand for the same do so with more after them
 pub value_of-same : (q : List ℕ) (xs ys zs : List Named) → value_of q xs ≡ value_of q ys → value_of q (xs ++ zs) ≡ value_of q (ys ++ zs)
 value_of-same q xs ys zs e = value_of-append q xs zs ∙ ap (λ o. option_or o (value_of q zs)) e ∙ sym (value_of-append q ys zs)
 

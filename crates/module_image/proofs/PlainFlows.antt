@@ -1,7 +1,7 @@
 -- Plain instructions lead from starts to starts.
 use Rattle.std.proofs.Common.{◌≡◌, ◌∙◌, ◌<◌, ◌+◌, ◌-◌, ◌^◌, ℕ, Bool, true, false, nat_lt, if◌then◌else◌, List, Option, Some, None, slice_get, refl, ap, subst, arith, ltb-false}
 use Rattle.std.proofs.lemmas.Option.{same_Some}
-use Rattle.insn_forms.specs.Spelling.{behind}
+use Rattle.insn_forms.specs.Spelling.{after}
 use Rattle.x64_subset.specs.declared.insn.Insn.{Insn}
 use Rattle.x64_subset.specs.declared.insn.Insn.TheVariants.{Nop, Int3, Jmp8, Jmp32, Call, Ret, Jcc8, Jcc32, Alu, AluImm, Inc, Dec, MovImm, Hlt, Ud2, Out as OutTo, Endbr64, Serialize}
 use Rattle.x64_subset.specs.declared.proc.Proc.{Proc}
@@ -18,9 +18,9 @@ use Rattle.module_image.proofs.Flowing.{calls_flows, either_flows, ends_flows, g
 use Rattle.module_image.proofs.Grounds.{IsGround, module_ground, module_leads, plain_next}
 use Rattle.module_image.proofs.Starts.{is_noted}
 
--- where an instruction may lead from an address: behind it if the processor may go on, and to its target
+-- where an instruction may lead from an address: after it if the processor may go on, and to its target
 pub record IsLed (t : Layout) (at : ℕ) (insn : Insn) (len : ℕ) : Type 0 where
-  pub on : never_falls insn ≡ false → IsStart t (behind at len)
+  pub on : never_falls insn ≡ false → IsStart t (after at len)
   pub to : (target : ℕ) → insn_target insn ≡ Some target → IsStart t target
 
 -- an instruction that leads to starts, by its effect

@@ -85,7 +85,7 @@ slice_get-set_other (y ∷ ys) (suc i) (suc j) x other = slice_get-set_other ys 
 pub written_back : {X : Type 0} (len : ℕ) (xs ys : List X) → length xs ≡ len → take len (xs ++ ys) ≡ xs
 written_back len xs ys same = grind (arith, common_steps, same)
 
--- the first so many items
+-- the first n items
 pub slice_get-take : {X : Type 0} (xs : List X) (n k : ℕ) → k < n → slice_get (take n xs) k ≡ slice_get xs k
 slice_get-take xs zero k lt = absurd (omega (arith, lt))
 slice_get-take [] (suc n) k lt = refl

@@ -15,7 +15,7 @@ use Rattle.module_image.specs.Layout.{Layout, IsStart}
 use Rattle.module_image.specs.Names.{Named, value_of}
 use Rattle.module_image.specs.Refusals.{function_aims}
 
--- what holds of all ways holds of those behind the first site or key
+-- what holds of all ways holds of those after the first site or key
 later_jumps : (t : Layout) (at : ℕ) (kind : SiteKind) (aims : List Aim) → AllReach t (jump_aim at kind aims) → AllReach t aims
 later_jumps t at (Jump target key likely) aims all = λ k aim here. all (suc k) aim here
 later_jumps t at (Call key) aims all = all

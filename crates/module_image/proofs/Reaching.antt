@@ -7,7 +7,7 @@ use Rattle.elf_module.specs.Elf.{Elf, SectionRecord}
 use Rattle.insn_forms.specs.declared.forms.Form.{Form}
 use Rattle.insn_forms.specs.declared.forms.Form.TheVariants.{Nop2, Nop5, Jmp8, Jmp32, Call as CallTo, Ret}
 use Rattle.insn_forms.specs.Displacement.{displacement}
-use Rattle.insn_forms.specs.Spelling.{behind, spell}
+use Rattle.insn_forms.specs.Spelling.{after, spell}
 use Rattle.insn_forms.proofs.Spellings.{length-spell}
 use Rattle.module_image.specs.declared.refused.Refused.TheVariants.{TextSize}
 use Rattle.module_image.specs.declared.site.Site.{Site}
@@ -47,14 +47,14 @@ abbrev Reaches : Form → ℕ → Type 0
 Reaches form at = (code : List ℕ) × (spell form at ≡ Some code)
 
 -- a displacement of four bytes leads from a place of five bytes to each address of the text
-far_displaced : (opcode : ℕ) (t : Layout) (at to : ℕ) → IsPlace t at 5 → t.base ≤ to → to < text_end t → (code : List ℕ) × (option_map (λ (rel : List ℕ). opcode ∷ rel) (displacement w32 (behind at 5) to) ≡ Some code)
+far_displaced : (opcode : ℕ) (t : Layout) (at to : ℕ) → IsPlace t at 5 → t.base ≤ to → to < text_end t → (code : List ℕ) × (option_map (λ (rel : List ℕ). opcode ∷ rel) (displacement w32 (after at 5) to) ≡ Some code)
 far_displaced opcode t at to place low high =
     let from = place.from in
     let end = place.to in
     let short = place.short in
     let below = place.below in
-    let same : behind at 5 ≡ at + 5 = omega (arith, end, below) in
-    (_, near_displaced opcode (behind at 5) to (omega (arith, same, end, below)) (omega (arith, high, below)) (omega (arith, same, end, short, low)) (omega (arith, same, from, high, short)))
+    let same : after at 5 ≡ at + 5 = omega (arith, end, below) in
+    (_, near_displaced opcode (after at 5) to (omega (arith, same, end, below)) (omega (arith, high, below)) (omega (arith, same, end, short, low)) (omega (arith, same, from, high, short)))
 
 call_reaches : (t : Layout) (units : List Unit) (at to : ℕ) → IsSwept t units → IsPlace t at 5 → IsStart t to → Reaches (CallTo to) at
 unfolding spell

@@ -5,7 +5,7 @@ use Rattle.std.specs.Prelude.{IfOk, ◌&&◌, nat_le, nat_lt}
 use Rattle.x64_subset.specs.Subset.{is_condition}
 use Rattle.std.specs.Int.{w32, from_le_bytes}
 use Rattle.insn_forms.specs.Displacement.{leads}
-use Rattle.insn_forms.specs.Spelling.{behind}
+use Rattle.insn_forms.specs.Spelling.{after}
 use Rattle.x64_subset.specs.declared.insn.AluOp.{AluOp}
 use Rattle.x64_subset.specs.declared.insn.AluOp.TheVariants.{Add, Sub, Xor, Cmp, Test, Mov}
 use Rattle.x64_subset.specs.declared.insn.Insn.{Insn}
@@ -61,7 +61,7 @@ within_near n at len insn le = within_byte (λ b. within_whole _ len le)
 
 within_far : (n at len : ℕ) (insn : ℕ → Insn) → len ≤ n + 4 → IsWithin n (far at len insn)
 within_far n at len insn le =
-    within_four (λ bytes. within_whole (insn (leads w32 (behind at len) bytes)) len (omega arith))
+    within_four (λ bytes. within_whole (insn (leads w32 (after at len) bytes)) len (omega arith))
 
 within_two_registers : (op : AluOp) (reg rm : ℕ) → IsWithin 2 (two_registers op reg rm)
 within_two_registers op reg rm = within_if _ (within_whole _ 2 (omega arith)) within_unknown

@@ -7,7 +7,7 @@ use Rattle.std.proofs.lemmas.Option.{same_Some}
 use Rattle.elf_module.specs.Elf.{Elf}
 use Rattle.insn_forms.specs.declared.forms.Form.{Form}
 use Rattle.insn_forms.specs.declared.forms.Form.TheVariants.{Nop2, Nop5, Jmp8, Jmp32, Call as CallTo, Ret}
-use Rattle.insn_forms.specs.Spelling.{behind}
+use Rattle.insn_forms.specs.Spelling.{after}
 use Rattle.x64_subset.specs.declared.proc.Proc.{Proc}
 use Rattle.x64_subset.specs.Effect.{at_ip, does}
 use Rattle.x64_subset.specs.Whole.{insn_of, name_len, whole}
@@ -33,11 +33,11 @@ use Rattle.module_image.proofs.StartLaws.{functions_start}
 
 -- where a form at an address leads
 abbrev pub LeadsOn : Layout → ℕ → Form → Type 0
-LeadsOn t at Nop2 = IsStart t (behind at 2)
-LeadsOn t at Nop5 = IsStart t (behind at 5)
+LeadsOn t at Nop2 = IsStart t (after at 2)
+LeadsOn t at Nop5 = IsStart t (after at 5)
 LeadsOn t at (Jmp8 target) = IsStart t target
 LeadsOn t at (Jmp32 target) = IsStart t target
-LeadsOn t at (CallTo target) = IsStart t target × IsStart t (behind at 5)
+LeadsOn t at (CallTo target) = IsStart t target × IsStart t (after at 5)
 LeadsOn t at Ret = ⊤
 
 -- so its instruction does
@@ -57,10 +57,10 @@ whole_flows t at form p start stands leads flows =
     stays_flows t p.ip (does (insn_of form) (name_len form) (at_ip at p)) stands
     (insn_flows t (at_ip at p) (insn_of form) (name_len form) (form_led t at form leads) there)
 
--- a jump site's forms go on behind it, or to its target
-nop_leads : (t : Layout) (at len : ℕ) → (len ≡ 2) ⊎ (len ≡ 5) → IsStart t (behind at len) → LeadsOn t at (nop_of len)
-nop_leads t at len (inl two) start = subst (λ (n : ℕ). LeadsOn t at (nop_of n)) (sym two) (subst (λ (n : ℕ). IsStart t (behind at n)) two start)
-nop_leads t at len (inr five) start = subst (λ (n : ℕ). LeadsOn t at (nop_of n)) (sym five) (subst (λ (n : ℕ). IsStart t (behind at n)) five start)
+-- a jump site's forms go on after it, or to its target
+nop_leads : (t : Layout) (at len : ℕ) → (len ≡ 2) ⊎ (len ≡ 5) → IsStart t (after at len) → LeadsOn t at (nop_of len)
+nop_leads t at len (inl two) start = subst (λ (n : ℕ). LeadsOn t at (nop_of n)) (sym two) (subst (λ (n : ℕ). IsStart t (after at n)) two start)
+nop_leads t at len (inr five) start = subst (λ (n : ℕ). LeadsOn t at (nop_of n)) (sym five) (subst (λ (n : ℕ). IsStart t (after at n)) five start)
 
 jump_leads : (t : Layout) (at len target : ℕ) → IsStart t target → LeadsOn t at (jump_of len target)
 jump_leads t at len target start = by (len == 2)
@@ -69,12 +69,12 @@ jump_leads t at len target start = by (len == 2)
     by true = start
     by false = start
 
-switched_leads : (t : Layout) (at len target : ℕ) (test : Bool) → (len ≡ 2) ⊎ (len ≡ 5) → IsStart t target → IsStart t (behind at len) → LeadsOn t at (cond test (jump_of len target) (nop_of len))
+switched_leads : (t : Layout) (at len target : ℕ) (test : Bool) → (len ≡ 2) ⊎ (len ≡ 5) → IsStart t target → IsStart t (after at len) → LeadsOn t at (cond test (jump_of len target) (nop_of len))
 switched_leads t at len target true two_or_five to on = jump_leads t at len target to
 switched_leads t at len target false two_or_five to on = nop_leads t at len two_or_five on
 
--- a call site's go on behind it, or call its key's function
-called_leads : (t : Layout) (at func : ℕ) → (func ≡ 0) ⊎ IsStart t func → IsStart t (behind at 5) → LeadsOn t at (called func)
+-- a call site's go on after it, or call its key's function
+called_leads : (t : Layout) (at func : ℕ) → (func ≡ 0) ⊎ IsStart t func → IsStart t (after at 5) → LeadsOn t at (called func)
 called_leads t at func to on = by (func == 0) refl to
   where
     by : (test : Bool) → (func == 0) ≡ test → (func ≡ 0) ⊎ IsStart t func → LeadsOn t at (cond test Nop5 (CallTo func))
@@ -91,17 +91,17 @@ tail_leads t at func to = by (func == 0) refl to
     by false is (inl none) = absurd (eqb-false func 0 is none)
     by false is (inr start) = start
 
--- a trace site's go on behind it, or call the tracer
-traced_leads : (t : Layout) (at tracer : ℕ) (on : Bool) → IsStart t tracer → IsStart t (behind at 5) → LeadsOn t at (traced tracer on)
+-- a trace site's go on after it, or call the tracer
+traced_leads : (t : Layout) (at tracer : ℕ) (on : Bool) → IsStart t tracer → IsStart t (after at 5) → LeadsOn t at (traced tracer on)
 traced_leads t at tracer true to next = (to, next)
 traced_leads t at tracer false to next = next
 
 -- what is known of a site's surroundings, by its kind
 abbrev HasLeads : Layout → ℕ → List ℕ → ℕ → ℕ → SiteKind → Type 0
-HasLeads t tracer states at len (Jump target key likely) = IsStart t target × ((len ≡ 2) ⊎ (len ≡ 5)) × IsStart t (behind at len)
-HasLeads t tracer states at len (Call key) = ((slice_index states key ≡ 0) ⊎ IsStart t (slice_index states key)) × IsStart t (behind at 5)
+HasLeads t tracer states at len (Jump target key likely) = IsStart t target × ((len ≡ 2) ⊎ (len ≡ 5)) × IsStart t (after at len)
+HasLeads t tracer states at len (Call key) = ((slice_index states key ≡ 0) ⊎ IsStart t (slice_index states key)) × IsStart t (after at 5)
 HasLeads t tracer states at len (Tail key) = (slice_index states key ≡ 0) ⊎ IsStart t (slice_index states key)
-HasLeads t tracer states at len Trace = IsStart t tracer × IsStart t (behind at 5)
+HasLeads t tracer states at len Trace = IsStart t tracer × IsStart t (after at 5)
 
 wanted_leads : (t : Layout) (tracer : ℕ) (states : List ℕ) (on : Bool) (at len : ℕ) (kind : SiteKind) → HasLeads t tracer states at len kind → LeadsOn t at (wanted tracer states on len kind)
 wanted_leads t tracer states on at len (Jump target key likely) leads = switched_leads t at len target _ leads.1 leads.0 leads.2
@@ -133,11 +133,11 @@ site_leads elf m states i s (Jump target key likely) is below well here ours kin
     (jump_reaches (layout_of m) (sites elf) i s target key likely (module_leads elf m is).of_jumps there kind, (ground.inside i s here).two_or_five, on)
 site_leads elf m states i s (Call key) is below well here ours kind keyed five =
     let on = site_next (layout_of m) m.units i s (module_ground elf m is) below here ours (ap is_tail kind) in
-    (key_leads m states key well keyed, subst (λ (n : ℕ). IsStart (layout_of m) (behind s.at n)) five on)
+    (key_leads m states key well keyed, subst (λ (n : ℕ). IsStart (layout_of m) (after s.at n)) five on)
 site_leads elf m states i s (Tail key) is below well here ours kind keyed five = key_leads m states key well keyed
 site_leads elf m states i s Trace is below well here ours kind keyed five =
     let on = site_next (layout_of m) m.units i s (module_ground elf m is) below here ours (ap is_tail kind) in
-    (tracer_start elf m i s is here kind, subst (λ (n : ℕ). IsStart (layout_of m) (behind s.at n)) five on)
+    (tracer_start elf m i s is here kind, subst (λ (n : ℕ). IsStart (layout_of m) (after s.at n)) five on)
 
 -- the sites of calls and traces have five bytes
 module_call_len : (elf : Elf) (m : Module) (i : ℕ) (s : Site) → IsModule elf m → slice_get m.sites i ≡ Some s → HasCallLen s.len s.kind

@@ -18,7 +18,7 @@ use Rattle.module_image.proofs.Between.{between_marks}
 use Rattle.module_image.proofs.Marking.{patched_parts}
 use Rattle.module_image.proofs.Positions.{found_some, slice_get-set_same, slice_get-set_other}
 
--- what stands behind an offset
+-- what stands after an offset
 rest_whole : {X : Type 0} (xs : List X) (n : ℕ) → slice_range xs n (length xs) ≡ drop n xs
 rest_whole xs n = grind (arith, common_steps)
 

@@ -10,7 +10,7 @@ use Rattle.module_image.specs.Keys.{place_in}
 use Rattle.module_image.specs.Names.{Named, value_of, is_function, functions_from, is_key, keys_from}
 use Rattle.module_image.proofs.Named.{value_of-same}
 
--- a symbol and those behind it
+-- a symbol and those after it
 pub functions_from-split : (index : ℕ) (s : SymbolRecord) (ss : List SymbolRecord) → functions_from index (s ∷ ss) ≡ functions_from index (s ∷ []) ++ functions_from index ss
 functions_from-split index s ss = step (is_function index s)
   where

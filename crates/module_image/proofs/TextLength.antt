@@ -19,11 +19,11 @@ use Rattle.module_image.proofs.WantedForms.{size_wanted}
 -- bytes that are put inside a text don't make it longer
 length_put : (bytes code : List ℕ) (at : ℕ) → at + length code ≤ length bytes → length (put_at bytes at code) ≡ length bytes
 length_put bytes code at room =
-    let front = length-take-le at bytes (omega (arith, room)) in
+    let prefix = length-take-le at bytes (omega (arith, room)) in
     let rest = length-drop (at + length code) bytes in
     let outer = length-append (take at bytes) (code ++ drop (at + length code) bytes) in
     let inner = length-append code (drop (at + length code) bytes) in
-    omega (arith, room, front, rest, outer, inner)
+    omega (arith, room, prefix, rest, outer, inner)
 
 -- a form's code is no longer than the form
 pub code_most : (form : Form) (at : ℕ) → length (form_code form at) ≤ size form

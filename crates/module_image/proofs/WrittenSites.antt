@@ -25,7 +25,7 @@ IsOff at len s = (at + len ≤ s.at) ⊎ (s.at + s.len ≤ at)
 
 off_offset : (base at len from many more : ℕ) → base ≤ at → base ≤ from → more ≤ many → (at + len ≤ from) ⊎ (from + many ≤ at) → ((at - base) + len ≤ from - base) ⊎ ((from - base) + more ≤ at - base)
 off_offset base at len from many more low low' le (inl before) = inl (omega (arith, low, low', before))
-off_offset base at len from many more low low' le (inr behind) = inr (omega (arith, low, low', le, behind))
+off_offset base at len from many more low low' le (inr after) = inr (omega (arith, low, low', le, after))
 
 -- writing a site leaves bytes that aren't its own
 site_kept : (base : ℕ) (states : List ℕ) (s : Site) (text : List ℕ) (at len : ℕ) → IsInside base (length text) s → HasCallLen s.len s.kind → base ≤ at → (s.foreign ≡ false → IsOff at len s) → code_at base (site_written base states s text) at len ≡ code_at base text at len

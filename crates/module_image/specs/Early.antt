@@ -13,7 +13,7 @@ state_of states (Call key) = slice_index states key
 state_of states (Tail key) = slice_index states key
 state_of states Trace = 0
 
--- the form that a site of so many bytes wants, where its key has this state
+-- the form that a site of n bytes wants, where its key has this state
 abbrev pub wanted_by : ℕ → ℕ → Bool → ℕ → SiteKind → Form
 wanted_by tracer state on len (Jump target key likely) = switched len target likely state
 wanted_by tracer state on len (Call key) = called state

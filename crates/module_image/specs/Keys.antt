@@ -51,20 +51,20 @@ abbrev pub number_of : List ℕ → List ℕ → KeyClass → ℕ → ℕ
 number_of jumps calls Jump key = place_in key jumps
 number_of jumps calls Call key = length jumps + place_in key calls
 
--- the byte that is loaded so far behind an address; addresses wrap modulo 2 ^ 64
-abbrev pub loaded_behind : List SectionRecord → ℕ → ℕ → Option ℕ
-loaded_behind sections at i = loaded sections ((at + i) % 2 ^ 64)
+-- the byte that is loaded so far after an address; addresses wrap modulo 2 ^ 64
+abbrev pub loaded_after : List SectionRecord → ℕ → ℕ → Option ℕ
+loaded_after sections at i = loaded sections ((at + i) % 2 ^ 64)
 
--- the number that is loaded in so many bytes at an address, the lowest first
+-- the number that is loaded in n bytes at an address, the lowest first
 abbrev pub loaded_number : List SectionRecord → ℕ → ℕ → ℕ
 loaded_number sections bytes at =
-    little_number bytes (map (λ i. unwrap_or (loaded_behind sections at i) 0) (range_with_len 0 bytes))
+    little_number bytes (map (λ i. unwrap_or (loaded_after sections at i) 0) (range_with_len 0 bytes))
 
 -- one of a key's 16 bytes isn't loaded
 pub record IsUnloaded (sections : List SectionRecord) (at : ℕ) : Type 0 where
   pub place : ℕ
   pub inside : place ≤ 15
-  pub missing : loaded_behind sections at place ≡ None
+  pub missing : loaded_after sections at place ≡ None
 
 -- what a key holds in the file: the count of `struct static_key`, the function of `struct static_call_key`
 abbrev pub start_of : List SectionRecord → KeyClass → ℕ → ℕ

@@ -68,7 +68,7 @@ is_trace_at at s = is_trace s.kind && s.at == at
 abbrev pub trace_at : List Site → ℕ → Option ℕ
 trace_at sites at = position (is_trace_at at) sites
 
--- the trace site of a function: at its address, or else four bytes behind it, after ENDBR64
+-- the trace site of a function: at its address, or else four bytes after it, after ENDBR64
 abbrev pub first_of : Option ℕ → Option ℕ → Option ℕ
 first_of None second = second
 first_of (Some n) second = Some n
@@ -95,7 +95,7 @@ SameNames kept ns = (name : List ℕ) → value_of name kept ≡ value_of name n
 pub record IsModule (elf : Elf) (m : Module) : Type 0 where
   pub passes : Passes elf 15
   pub has_base : m.base ≡ base elf
-  -- no address of the text, and none behind it, wraps
+  -- no address of the text, and none after it, wraps
   pub below : m.base + length m.text < 2 ^ 64
   pub has_text : m.text ≡ text elf
   pub has_sites : m.sites ≡ sites elf

@@ -103,7 +103,7 @@ Holds elf (BadTarget from to) =
 Holds elf (EndFalls at) = IsFalling (layout elf) at
 Holds elf NoMemory = ⊥
 
--- the place of each refusal in the order; want of memory may come at any place
+-- the place of each refusal in the order; out of memory may come at any place
 abbrev pub order : Refused → ℕ
 order (TextCount n) = 1
 order (TextSize n) = 2
@@ -130,7 +130,7 @@ pub record IsRefusal (elf : Elf) (why : Refused) : Type 0 where
   pub holds : Holds elf why
   pub first : Passes elf (order why)
 
--- want of memory, or the refusal
+-- out of memory, or the refusal
 abbrev pub IsRefusedFor : Elf → Refused → Type 0
 IsRefusedFor elf why = (why ≡ NoMemory) ⊎ IsRefusal elf why
 

@@ -12,7 +12,7 @@ kind_name (Call key) = codes "call"
 kind_name (Tail key) = codes "tail"
 kind_name Trace = codes "trace"
 
--- `site ADDR KIND BYTES`, with `foreign` behind it where the site is
+-- `site ADDR KIND BYTES`, with `foreign` after it where the site is
 abbrev pub site_line : Site → List ℕ → List ℕ
 site_line s code =
     codes "site " ++ hexadecimal s.at ++ codes " " ++ kind_name s.kind ++ codes " " ++ encode_lower code

@@ -59,7 +59,7 @@ is_early at len (Call key) code = holds Nop5 at code || opens call_opcode code
 is_early at len (Tail key) code = holds Ret at code || opens jump_opcode code
 is_early at len Trace code = holds Nop5 at code || opens call_opcode code
 
--- so many bytes at an address of a text
+-- n bytes at an address of a text
 abbrev pub code_at : ℕ → List ℕ → ℕ → ℕ → List ℕ
 code_at base text at len = take len (drop (at - base) text)
 

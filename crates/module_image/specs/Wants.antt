@@ -5,7 +5,7 @@ use Rattle.insn_forms.specs.declared.forms.Form.TheVariants.{Nop2, Nop5, Jmp8, J
 use Rattle.module_image.specs.declared.site.SiteKind.{SiteKind}
 use Rattle.module_image.specs.declared.site.SiteKind.TheVariants.{Jump, Call, Tail, Trace}
 
--- a NOP and a jump of so many bytes
+-- a NOP and a jump of n bytes
 abbrev pub nop_of : ℕ → Form
 nop_of len = if len == 2 then Nop2 else Nop5
 
@@ -26,7 +26,7 @@ tail_called func = if func == 0 then Ret else Jmp32 func
 abbrev pub traced : ℕ → Bool → Form
 traced tracer on = if on then CallTo tracer else Nop5
 
--- the form that a site of so many bytes wants: the keys' states are counts and functions by their numbers, and
+-- the form that a site of n bytes wants: the keys' states are counts and functions by their numbers, and
 -- `on` says whether the site is traced
 abbrev pub wanted : ℕ → List ℕ → Bool → ℕ → SiteKind → Form
 wanted tracer states on len (Jump target key likely) = switched len target likely (slice_index states key)

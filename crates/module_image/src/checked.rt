@@ -19,7 +19,7 @@ use std::alloc::Global;
 /// Sweeps the text.
 ///
 /// # Errors
-/// `Undecoded`; want of memory.
+/// `Undecoded`; out of memory.
 pub fn find_units(
     alloc: Global,
     file: &ElfFile<'_>,

@@ -29,7 +29,7 @@ impl<'a> Found<'a> {
     ///
     /// # Errors
     /// The first that holds of `TextCount`, `TextSize`, `Table`, `SiteCount`, `SiteOutside`, `SiteLength` and
-    /// `SiteOverlap`; want of memory.
+    /// `SiteOverlap`; out of memory.
     pub fn of(alloc: Global, file: &ElfFile<'a>) -> Result<Found<'a>, Refused>
         ensures tried { Tries file.now 8 result }
         ensures found { IfOk result (IsFound file.now) }
@@ -54,7 +54,7 @@ impl<'a> Found<'a> {
 /// The keys of a file, with what it has there.
 ///
 /// # Errors
-/// The first that holds of `KeyOutside` and `KeyState`; want of memory.
+/// The first that holds of `KeyOutside` and `KeyState`; out of memory.
 pub fn find_keys(
     alloc: Global,
     file: &ElfFile<'_>,

@@ -19,7 +19,7 @@ use x64_subset::Insn;
 /// The name of the function that is called at traced sites.
 const TRACER_NAME: &[u8] = b"ftrace_caller";
 
-/// How many bytes ENDBR64 has, behind which a function's trace site may stand.
+/// How many bytes ENDBR64 has, after which a function's trace site may stand.
 const ENDBR64_BYTES: u64 = 4;
 
 /// An accepted module: its text after early writing, its sites and keys, and what its names stand for.
@@ -151,7 +151,7 @@ impl Image {
         self.functions.get(name)
     }
 
-    /// The number of the trace site at a function's address, or where there is none of the one four bytes behind
+    /// The number of the trace site at a function's address, or where there is none of the one four bytes after
     /// it, after ENDBR64. `None` exactly where both are missing.
     pub fn trace_site_of(&self, function: u64) -> Option<u32>
         ensures { result ≡ trace_site_of self.now function }

@@ -2,7 +2,7 @@
 ghost use Rattle.std.specs.Prelude.{◌≡◌, ◌++◌, ◌<◌, map, IfOk, IfErr};
 ghost use Rattle.std.specs.List.{range_with_len};
 ghost use Rattle.std.specs.Option.{unwrap_or};
-ghost use Rattle.module_image.specs.Keys.{key_of, start_of, loaded_behind};
+ghost use Rattle.module_image.specs.Keys.{key_of, start_of, loaded_after};
 ghost use Rattle.module_image.specs.declared.key.KeyClass.TheVariants.{Jump, Call};
 ghost use Rattle.module_image.specs.declared.refused.Refused.TheVariants.{NoMemory};
 
@@ -54,14 +54,14 @@ fn start_of(file: &ElfFile<'_>, class: KeyClass, at: u64) -> u64
 
 /// The eight bytes that are loaded at an address; one that isn't counts as 0.
 fn loaded_bytes(file: &ElfFile<'_>, at: u64) -> [u8; 8]
-    ensures { result ≡ map (λ i. unwrap_or (loaded_behind file.now.sections at i) 0) (range_with_len 0 8) }
+    ensures { result ≡ map (λ i. unwrap_or (loaded_after file.now.sections at i) 0) (range_with_len 0 8) }
 {
     array::from_fn(|i| loaded_byte(file, at, i as u64))
 }
 
-/// The byte that is loaded so far behind an address, 0 where none is. Addresses wrap modulo 2^64.
+/// The byte that is loaded so far after an address, 0 where none is. Addresses wrap modulo 2^64.
 fn loaded_byte(file: &ElfFile<'_>, at: u64, i: u64) -> u8
-    ensures { result ≡ unwrap_or (loaded_behind file.now.sections at i) 0 }
+    ensures { result ≡ unwrap_or (loaded_after file.now.sections at i) 0 }
 {
     file.load(at.wrapping_add(i)).unwrap_or(0)
 }

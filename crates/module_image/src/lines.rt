@@ -5,7 +5,7 @@ ghost use Rattle.module_image.specs.SiteLine.{kind_name, site_line};
 use crate::{Site, SiteKind};
 use poke_base::{Line, put_bytes, put_hex, put_text};
 
-/// `site ADDR KIND BYTES`: a site with the bytes that it holds, at most five, and `foreign` behind them where it is.
+/// `site ADDR KIND BYTES`: a site with the bytes that it holds, at most five, and `foreign` after them where it is.
 #[tactic(auto, using(poke_base::proofs::Numbers::line_room))]
 pub fn site_line(site: &Site, code: &[u8]) -> Line
     requires { length code.now ≤ 5 }

@@ -50,7 +50,7 @@ pub enum Refused {
     #[error("no instruction begins at {1:x}, where {0:x} leads")]
     BadTarget(u64, u64),
     /// The last instruction may be followed by one past the text; its address.
-    #[error("the text ends behind {0:x}")]
+    #[error("the text ends after {0:x}")]
     EndFalls(u64),
     /// There was no memory.
     #[error("no memory")]

@@ -16,7 +16,7 @@ const CALL_LEN: u8 = 5;
 /// The sites of the entries, ascending; those with one address in the entries' order.
 ///
 /// # Errors
-/// Want of memory.
+/// Out of memory.
 pub fn site_list(
     alloc: Global,
     text: &Text<'_>,
@@ -135,7 +135,7 @@ fn kind_of(keys: &KeyAddresses, kind: EntryKind) -> SiteKind
     }
 }
 
-/// So many bytes at an address of the text; fewer where it ends before them.
+/// N bytes at an address of the text; fewer where it ends before them.
 fn code_at<'a>(text: &Text<'a>, at: u64, len: u8) -> &'a [u8]
     requires from { text.now.base ≤ at }
     requires to { at ≤ text.now.base + length text.now.bytes.now }

@@ -21,7 +21,7 @@ struct Found {
     units: Vec<Unit>,
     /// The site at the text's first address.
     site: Option<u32>,
-    /// The plain instruction behind five bytes.
+    /// The plain instruction after five bytes.
     plain: Option<(Insn, u8)>,
     /// Where a plain jump or the function at the text's first address leads astray.
     bad: Option<Aim>,

@@ -29,7 +29,7 @@ impl Swept {
     /// Writes the sites that were found to what they want at the start, and sweeps the text.
     ///
     /// # Errors
-    /// The first that holds of `Undecoded`, `BadTarget` and `EndFalls`; want of memory.
+    /// The first that holds of `Undecoded`, `BadTarget` and `EndFalls`; out of memory.
     pub fn of(
         alloc: Global,
         file: &ElfFile<'_>,

@@ -14,7 +14,7 @@ use std::alloc::Global;
 /// The text with each site that isn't foreign written to the form that it wants at the start.
 ///
 /// # Errors
-/// Want of memory.
+/// Out of memory.
 pub fn write_sites(
     alloc: Global,
     text: &Text<'_>,

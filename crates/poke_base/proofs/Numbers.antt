@@ -69,7 +69,7 @@ spelling-more base n two large =
     let some : 0 < n / base = le-div 1 n base (omega arith) (omega arith) in
     spelling-positive base n pos ∙ ap (map digit_byte) (digits_of_step base n two pos)
     ∙ map_push digit_byte (digits_of base (n / base)) (n % base)
-    ∙ ap (λ front. front ++ (digit_byte (n % base) ∷ [])) (sym (spelling-positive base (n / base) some))
+    ∙ ap (λ prefix. prefix ++ (digit_byte (n % base) ∷ [])) (sym (spelling-positive base (n / base) some))
 
 -- and is longer by one byte than without it
 pub length-spelling-more : (base n : ℕ) → 2 ≤ base → base ≤ n → length (spelling base n) ≡ length (spelling base (n / base)) + 1
@@ -78,7 +78,7 @@ length-spelling-more base n two large =
 
 -- ---- how long spellings are
 
--- a number below a power of the base has at most so many digits
+-- a number below a power of the base has at most n digits
 length-spelling-le : (base most n : ℕ) → 2 ≤ base → 0 < most → n < base ^ most → length (spelling base n) ≤ most
 length-spelling-le base most zero two some small = some
 length-spelling-le base most (suc m) two some small =
@@ -92,7 +92,7 @@ length-hexadecimal-le n small = length-spelling-le 16 16 n (omega arith) (omega 
 pub length-decimal-le : (n : ℕ) → n < 2 ^ 64 → length (decimal n) ≤ 20
 length-decimal-le n small = length-spelling-le 10 20 n (omega arith) (omega arith) (omega arith)
 
--- how long a line is behind numbers and bytes, for callers to name on a function
+-- how long a line is after numbers and bytes, for callers to name on a function
 pub ruleset line_room = (common_steps, length-encode_with, length-hexadecimal-le, length-decimal-le)
 
 -- ---- reading back
@@ -143,7 +143,7 @@ dec_number-decimal n small =
 
 -- ---- reading digit by digit
 
--- the number that a value and the digits of a word behind it make
+-- the number that a value and the digits of a word after it make
 abbrev pub read_on : ℕ → ℕ → List ℕ → Option ℕ
 read_on base value [] = Some value
 read_on base value (byte ∷ word) =

@@ -3,26 +3,26 @@ use Rattle.std.proofs.Common.{◌≡◌, ◌∙◌, refl, sym, ap, ℕ, ◌≤�
 use Rattle.std.proofs.lemmas.List.{take-append-le, take-append-drop}
 use Rattle.std.proofs.Math.Seq.{take-append-add}
 use Rattle.std.specs.FinMap.{get, insert}
-use Rattle.poke_base.specs.Text.{IsFront}
+use Rattle.poke_base.specs.Text.{IsPrefix}
 use Rattle.poke_base.specs.Host.{Files, Outside, Rose, Tells, with_more, appended, with_appended, Adds, Prints, Appends}
 use Rattle.poke_base.proofs.Files.{get-inserted, insert-inserted}
 
--- a front of a text is a front of a longer one
-pub IsFront-longer : (front text rest : List ℕ) → IsFront front text → IsFront front (text ++ rest)
-IsFront-longer front text rest h =
-    let fits : length front ≤ length text = omega (arith, simp length-take at (ap length h)) in
-    take-append-le (length front) text rest fits ∙ h
+-- a prefix of a text is a prefix of a longer one
+pub IsPrefix-longer : (prefix text rest : List ℕ) → IsPrefix prefix text → IsPrefix prefix (text ++ rest)
+IsPrefix-longer prefix text rest h =
+    let fits : length prefix ≤ length text = omega (arith, simp length-take at (ap length h)) in
+    take-append-le (length prefix) text rest fits ∙ h
 
--- a front of a front
-pub IsFront-trans : (first middle text : List ℕ) → IsFront first middle → IsFront middle text → IsFront first text
-IsFront-trans first middle text h k =
-    let whole : middle ++ drop (length middle) text ≡ text = ap (λ front. front ++ drop (length middle) text) (sym k) ∙ take-append-drop (length middle) text in
-    ap (take (length first)) (sym whole) ∙ IsFront-longer first middle (drop (length middle) text) h
+-- a prefix of a prefix
+pub IsPrefix-trans : (first middle text : List ℕ) → IsPrefix first middle → IsPrefix middle text → IsPrefix first text
+IsPrefix-trans first middle text h k =
+    let whole : middle ++ drop (length middle) text ≡ text = ap (λ prefix. prefix ++ drop (length middle) text) (sym k) ∙ take-append-drop (length middle) text in
+    ap (take (length first)) (sym whole) ∙ IsPrefix-longer first middle (drop (length middle) text) h
 
--- a front of what follows a text is one of the whole with the text before it
-pub IsFront-after : (text front rest : List ℕ) → IsFront front rest → IsFront (text ++ front) (text ++ rest)
-IsFront-after text front rest h =
-    ap (λ n. take n (text ++ rest)) (length-append text front) ∙ take-append-add text rest (length front) ∙ ap (λ more. text ++ more) h
+-- a prefix of what follows a text is one of the whole with the text before it
+pub IsPrefix-after : (text prefix rest : List ℕ) → IsPrefix prefix rest → IsPrefix (text ++ prefix) (text ++ rest)
+IsPrefix-after text prefix rest h =
+    ap (λ n. take n (text ++ rest)) (length-append text prefix) ∙ take-append-add text rest (length prefix) ∙ ap (λ more. text ++ more) h
 
 -- a count that rose later had risen from before
 pub Rose-later : (first middle last : ℕ) → first ≤ middle → Rose middle last → Rose first last
@@ -88,12 +88,12 @@ Adds-more : {T E : Type 0} (old middle new : Option (List ℕ)) (p q : List ℕ)
 Adds-more old middle new p q done (Ok next) h k =
     record { whole = Tells-more old middle new p q h.whole k.whole; part = tt }
 Adds-more old middle new p q done (Err why) h k =
-    record { whole = tt; part = (p ++ k.part.0, IsFront-after p k.part.0 q k.part.1, Tells-more old middle new p k.part.0 h.whole k.part.2) }
+    record { whole = tt; part = (p ++ k.part.0, IsPrefix-after p k.part.0 q k.part.1, Tells-more old middle new p k.part.0 h.whole k.part.2) }
 
 -- a part of a piece is a part of a longer one
 Adds-part : {T E : Type 0} (old new : Option (List ℕ)) (p rest : List ℕ) (why : E) → Adds {T = T} {E = E} old new p (Err why) → Adds {T = T} {E = E} old new (p ++ rest) (Err why)
 Adds-part old new p rest why h =
-    record { whole = tt; part = (h.part.0, IsFront-longer h.part.0 p rest h.part.1, h.part.2) }
+    record { whole = tt; part = (h.part.0, IsPrefix-longer h.part.0 p rest h.part.1, h.part.2) }
 
 -- the count of a call rose over both calls where it rose in the second
 failed_later : {T E : Type 0} (first middle last : ℕ) (result : Result T E) → first ≤ middle → OnErr result (Rose middle last) → OnErr result (Rose first last)
@@ -129,8 +129,8 @@ Prints-more old middle new p q done result h k = record {
 }
 
 -- a part of a piece was printed, which is a part of a longer one
-pub Prints-front : {T E : Type 0} (old new : Outside) (p rest : List ℕ) (why : E) → Prints {T = T} {E = E} old new p (Err why) → Prints {T = T} {E = E} old new (p ++ rest) (Err why)
-Prints-front old new p rest why h =
+pub Prints-prefix : {T E : Type 0} (old new : Outside) (p rest : List ℕ) (why : E) → Prints {T = T} {E = E} old new p (Err why) → Prints {T = T} {E = E} old new (p ++ rest) (Err why)
+Prints-prefix old new p rest why h =
     record {
       printed = Adds-part old.printed new.printed p rest why h.printed;
       failed = h.failed;
@@ -146,7 +146,7 @@ Prints-front old new p rest why h =
 -- a piece was printed whole, then a part of the next: a part of the two with anything after them
 pub Prints-part : {T E : Type 0} (old middle new : Outside) (p q rest : List ℕ) (done : T) (why : E) → Prints {T = T} {E = E} old middle p (Ok done) → Prints {T = T} {E = E} middle new q (Err why) → Prints {T = T} {E = E} old new ((p ++ q) ++ rest) (Err why)
 Prints-part old middle new p q rest done why h k =
-    Prints-front old new (p ++ q) rest why (Prints-more old middle new p q done (Err why) h k)
+    Prints-prefix old new (p ++ q) rest why (Prints-more old middle new p q done (Err why) h k)
 
 -- nothing was appended
 pub Appends-none : {T E : Type 0} (old : Outside) (done : T) → Appends {T = T} {E = E} old old [] (Ok done)
@@ -169,10 +169,10 @@ appended_whole old middle new p q done (Ok next) h k = Tells-appended old middle
 appended_whole old middle new p q done (Err why) h k = tt
 
 -- the files after a piece and then a part of the next
-appended_part : {T E : Type 0} (old middle new : Outside) (p q : List ℕ) (done : T) (result : Result T E) → Appends {T = T} {E = E} old middle p (Ok done) → Appends middle new q result → OnErr result ((done : List ℕ) × IsFront done (p ++ q) × Tells (with_appended old done) new.files)
+appended_part : {T E : Type 0} (old middle new : Outside) (p q : List ℕ) (done : T) (result : Result T E) → Appends {T = T} {E = E} old middle p (Ok done) → Appends middle new q result → OnErr result ((done : List ℕ) × IsPrefix done (p ++ q) × Tells (with_appended old done) new.files)
 appended_part old middle new p q done (Ok next) h k = tt
 appended_part old middle new p q done (Err why) h k =
-    (p ++ k.part.0, IsFront-after p k.part.0 q k.part.1, Tells-appended old middle new p k.part.0 h.making h.whole k.part.2)
+    (p ++ k.part.0, IsPrefix-after p k.part.0 q k.part.1, Tells-appended old middle new p k.part.0 h.making h.whole k.part.2)
 
 -- a piece was appended whole, and then all of the next or a part of it
 pub Appends-more : {T E : Type 0} (old middle new : Outside) (p q : List ℕ) (done : T) (result : Result T E) → Appends {T = T} {E = E} old middle p (Ok done) → Appends middle new q result → Appends old new (p ++ q) result
@@ -190,11 +190,11 @@ Appends-more old middle new p q done result h k = record {
 }
 
 -- a part of a piece was appended, which is a part of a longer one
-pub Appends-front : {T E : Type 0} (old new : Outside) (p rest : List ℕ) (why : E) → Appends {T = T} {E = E} old new p (Err why) → Appends {T = T} {E = E} old new (p ++ rest) (Err why)
-Appends-front old new p rest why h =
+pub Appends-prefix : {T E : Type 0} (old new : Outside) (p rest : List ℕ) (why : E) → Appends {T = T} {E = E} old new p (Err why) → Appends {T = T} {E = E} old new (p ++ rest) (Err why)
+Appends-prefix old new p rest why h =
     record {
       whole = tt;
-      part = (h.part.0, IsFront-longer h.part.0 p rest h.part.1, h.part.2);
+      part = (h.part.0, IsPrefix-longer h.part.0 p rest h.part.1, h.part.2);
       failed = h.failed;
       making = h.making;
       printed = h.printed;
@@ -208,4 +208,4 @@ Appends-front old new p rest why h =
 -- a piece was appended whole, then a part of the next: a part of the two with anything after them
 pub Appends-part : {T E : Type 0} (old middle new : Outside) (p q rest : List ℕ) (done : T) (why : E) → Appends {T = T} {E = E} old middle p (Ok done) → Appends {T = T} {E = E} middle new q (Err why) → Appends {T = T} {E = E} old new ((p ++ q) ++ rest) (Err why)
 Appends-part old middle new p q rest done why h k =
-    Appends-front old new (p ++ q) rest why (Appends-more old middle new p q done (Err why) h k)
+    Appends-prefix old new (p ++ q) rest why (Appends-more old middle new p q done (Err why) h k)

@@ -23,7 +23,7 @@ pub words-drop_blanks : (line : List ℕ) → words (drop (blanks line) line) �
 words-drop_blanks [] = refl
 words-drop_blanks (byte ∷ line) = words-blank (is_blank byte) byte line refl (words-drop_blanks line)
 
--- behind the blanks stands a word, or nothing
+-- after the blanks stands a word, or nothing
 pub begins_no_word-drop_blanks : (line : List ℕ) → 0 < length (drop (blanks line) line) → begins_no_word (drop (blanks line) line) ≡ false
 begins_no_word-drop_blanks [] h = absurd (omega arith)
 begins_no_word-drop_blanks (byte ∷ line) h = step (is_blank byte) refl (begins_no_word-drop_blanks line) h
@@ -66,8 +66,8 @@ words-none line [] e empty = sym (words-drop_blanks line) ∙ ap words (sym e)
 words-none line (byte ∷ text) e empty = absurd (omega arith)
 
 -- the words of a line are its first word and those of the rest
-pub words-some : (line text front back : List ℕ) → text ≡ drop (blanks line) line → 0 < length text
-    → front ≡ take (first_len text) text → back ≡ drop (first_len text) text → words line ≡ front ∷ words back
-words-some line text front back e some first rest =
+pub words-some : (line text prefix back : List ℕ) → text ≡ drop (blanks line) line → 0 < length text
+    → prefix ≡ take (first_len text) text → back ≡ drop (first_len text) text → words line ≡ prefix ∷ words back
+words-some line text prefix back e some first rest =
     let begins = begins_no_word-drop_blanks line (omega (arith, ap length e)) in
     sym (words-drop_blanks line) ∙ ap words (sym e) ∙ words-first text (rw e begins) ∙ (λ i. sym first i ∷ words (sym rest i))

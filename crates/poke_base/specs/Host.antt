@@ -7,7 +7,7 @@ use Rattle.poke_base.specs.declared.host.AskedBy.{AskedBy}
 use Rattle.poke_base.specs.declared.host.AskedBy.TheVariants.{Read, Make}
 use Rattle.poke_base.specs.declared.host.ReadFail.{ReadFail}
 use Rattle.poke_base.specs.declared.host.ReadFail.TheVariants.{Failed, TooLong}
-use Rattle.poke_base.specs.Text.{IsFront}
+use Rattle.poke_base.specs.Text.{IsPrefix}
 
 -- the bytes of each file, by the bytes of its name
 abbrev pub Files : Type 0
@@ -46,15 +46,15 @@ appended files name [] = files
 appended files name (byte ∷ piece) =
     insert files name (unwrap_or (get files name) [] ++ byte ∷ piece)
 
--- the piece was added to a text, or, after a failure, a front of it
+-- the piece was added to a text, or, after a failure, a prefix of it
 pub record Adds {T E : Type 0} (old new : Option (List ℕ)) (piece : List ℕ) (result : Result T E) : Type 0 where
   pub whole : OnOk result (Tells (with_more old piece) new)
-  pub part : OnErr result ((done : List ℕ) × IsFront done piece × Tells (with_more old done) new)
+  pub part : OnErr result ((done : List ℕ) × IsPrefix done piece × Tells (with_more old done) new)
 
 -- what `read_file` read of a file, or of no such file
 pub record ReadsFrom {T : Type 0} (file : Option (List ℕ)) (out : List ℕ) (result : Result T ReadFail) : Type 0 where
   pub whole : OnOk result (file ≡ Some out)
-  pub front : OnErr result (IsFront out (unwrap_or file []))
+  pub prefix : OnErr result (IsPrefix out (unwrap_or file []))
 
 -- what `read_file` does
 pub record ReadsFile {T : Type 0} (old new : Outside) (name : List ℕ) (limit : ℕ) (out : List ℕ) (result : Result T ReadFail) : Type 0 where
@@ -92,7 +92,7 @@ with_appended old piece = option_map (λ files. appended files (unwrap_or old.ma
 -- what `append` does to the file that is being made
 pub record Appends {T E : Type 0} (old new : Outside) (piece : List ℕ) (result : Result T E) : Type 0 where
   pub whole : OnOk result (Tells (with_appended old piece) new.files)
-  pub part : OnErr result ((done : List ℕ) × IsFront done piece × Tells (with_appended old done) new.files)
+  pub part : OnErr result ((done : List ℕ) × IsPrefix done piece × Tells (with_appended old done) new.files)
   pub failed : OnErr result (Rose old.write_faults new.write_faults)
   pub making : new.making ≡ old.making
   pub printed : Tells old.printed new.printed

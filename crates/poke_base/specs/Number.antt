@@ -33,7 +33,7 @@ abbrev pub dec_number : List ℕ → Option ℕ
 dec_number word =
     if is_numeral 10 20 word && nat_lt (value_of 10 word) (2 ^ 64) then Some (value_of 10 word) else None
 
--- the number below 2 ^ 64 that 1 to so many digits of a base make
+-- the number below 2 ^ 64 that 1 to n digits of a base make
 abbrev pub digits_number : ℕ → ℕ → List ℕ → Option ℕ
 digits_number base most word =
     if is_numeral base most word && nat_lt (value_of base word) (2 ^ 64) then Some (value_of base word) else None

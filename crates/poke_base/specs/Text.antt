@@ -1,9 +1,9 @@
--- Texts as lists of bytes: fronts, and the words of a line.
+-- Texts as lists of bytes: prefixes, and the words of a line.
 use Rattle.std.specs.Prelude.{◌≡◌, ◌==◌, ◌||◌, ℕ, Bool, true, if◌then◌else◌, List, [], ◌∷◌, length, take}
 
--- front is how text begins
-abbrev pub IsFront : List ℕ → List ℕ → Type 0
-IsFront front text = take (length front) text ≡ front
+-- prefix is how text begins
+abbrev pub IsPrefix : List ℕ → List ℕ → Type 0
+IsPrefix prefix text = take (length prefix) text ≡ prefix
 
 -- what stands between the words of a line: a space, a tab or a carriage return
 abbrev pub is_blank : ℕ → Bool

@@ -44,8 +44,8 @@ pub trait Host {
     ///
     /// # Errors
     /// `Failed` where the file isn't there or a read failed: the count of read faults went up, and
-    /// `out` is a front of the file. `TooLong` where the file has more than `limit` bytes: `out` is
-    /// its first `limit + 1` bytes. `NoMemory`: `out` is a front of the file.
+    /// `out` is a prefix of the file. `TooLong` where the file has more than `limit` bytes: `out` is
+    /// its first `limit + 1` bytes. `NoMemory`: `out` is a prefix of the file.
     fn read_file(&mut self, name: &str, limit: u64, out: &mut Vec<u8>) -> Result<(), ReadFail>
         requires { out.old.items ≡ [] }
         ensures { ReadsFile (outside self.old) (outside self.new) name.now limit out.new.items result };
@@ -61,7 +61,7 @@ pub trait Host {
     /// Adds a piece to the file being made.
     ///
     /// # Errors
-    /// `WriteFail`: the count of write faults went up, and a front of the piece was added.
+    /// `WriteFail`: the count of write faults went up, and a prefix of the piece was added.
     fn append(&mut self, piece: &[u8]) -> Result<(), WriteFail>
         requires { IsSome (outside self.old).making }
         ensures { Appends (outside self.old) (outside self.new) piece.now result };
@@ -69,14 +69,14 @@ pub trait Host {
     /// Writes a piece to standard output.
     ///
     /// # Errors
-    /// `WriteFail`: the count of write faults went up, and a front of the piece was printed.
+    /// `WriteFail`: the count of write faults went up, and a prefix of the piece was printed.
     fn print(&mut self, piece: &[u8]) -> Result<(), WriteFail>
         ensures { Prints (outside self.old) (outside self.new) piece.now result };
 
     /// Writes a piece to standard error.
     ///
     /// # Errors
-    /// `WriteFail`: the count of complaint faults went up, and a front of the piece was written.
+    /// `WriteFail`: the count of complaint faults went up, and a prefix of the piece was written.
     fn complain(&mut self, piece: &[u8]) -> Result<(), WriteFail>
         ensures { Complains (outside self.old) (outside self.new) piece.now result };
 }

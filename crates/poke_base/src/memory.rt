@@ -57,7 +57,7 @@ impl MemoryHost {
     /// Puts a file there, or other bytes into it. This is no call of `Host`.
     ///
     /// # Errors
-    /// Want of memory, which leaves the host as it was.
+    /// Out of memory, which leaves the host as it was.
     pub fn put(&mut self, name: &str, bytes: &[u8]) -> Result<(), NoMemory>
         ensures ok { OnOk result (outside_of self.new ≡ record (outside_of self.old) { files = with_file (outside_of self.old).files name.now bytes.now }) }
         ensures err { OnErr result (outside_of self.new ≡ outside_of self.old) }
@@ -70,7 +70,7 @@ impl MemoryHost {
     /// Lets the call of this number fail, counted from 1 over all calls of `Host`.
     ///
     /// # Errors
-    /// Want of memory, which leaves the host as it was.
+    /// Out of memory, which leaves the host as it was.
     pub fn fail_at(&mut self, call: u64) -> Result<(), NoMemory>
         ensures ok { OnOk result (failing_calls self.new ≡ failing_calls self.old ++ call ∷ []) }
         ensures err { OnErr result (failing_calls self.new ≡ failing_calls self.old) }
@@ -97,7 +97,7 @@ impl MemoryHost {
         &self.printed
     }
 
-    /// What was complained.
+    /// What was reported.
     pub fn complained(&self) -> &[u8]
         ensures { (outside_of self.now).complained ≡ Some result.now }
     {

@@ -181,12 +181,12 @@ mod tests {
         let mut whole = Vec::new(alloc);
         assert_eq!(rt; host.read_file(name.as_str(), 5, &mut whole), Ok(()));
         assert_eq!(rt; whole.as_slice(), b"abcde".as_slice());
-        let mut front = Vec::new(alloc);
+        let mut prefix = Vec::new(alloc);
         assert_eq!(rt;
-            host.read_file(name.as_str(), 4, &mut front),
+            host.read_file(name.as_str(), 4, &mut prefix),
             Err(ReadFail::TooLong)
         );
-        assert_eq!(rt; front.as_slice(), b"abcde".as_slice());
+        assert_eq!(rt; prefix.as_slice(), b"abcde".as_slice());
         fs::remove_file(&rt, name.as_str())?;
         let mut nothing = Vec::new(alloc);
         assert_eq!(rt;

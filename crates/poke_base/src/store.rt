@@ -56,7 +56,7 @@ impl Store {
     /// Puts a file there, or other bytes into it.
     ///
     /// # Errors
-    /// Want of memory, which leaves everything as it was.
+    /// Out of memory, which leaves everything as it was.
     pub(crate) fn put(&mut self, alloc: Global, name: &str, bytes: &[u8]) -> Result<(), NoMemory>
         ensures ok { OnOk result (self.new ≡ record self.old { files = insert self.old.files name.now bytes.now }) }
         ensures err { OnErr result (self.new ≡ self.old) }
@@ -76,7 +76,7 @@ impl Store {
     /// Makes a file empty, which is then the file being made.
     ///
     /// # Errors
-    /// Want of memory, which leaves everything as it was.
+    /// Out of memory, which leaves everything as it was.
     pub(crate) fn make(&mut self, alloc: Global, name: &str) -> Result<(), NoMemory>
         ensures ok { OnOk result (self.new ≡ record { files = insert self.old.files name.now []; making = Some name.now }) }
         ensures err { OnErr result (self.new ≡ self.old) }
@@ -103,7 +103,7 @@ impl Store {
     /// Adds a piece to the file being made.
     ///
     /// # Errors
-    /// Want of memory, which leaves everything as it was.
+    /// Out of memory, which leaves everything as it was.
     pub(crate) fn append(&mut self, piece: &[u8]) -> Result<(), NoMemory>
         requires { IsSome self.old.making }
         ensures ok { OnOk result (self.new ≡ record self.old { files = appended self.old.files (unwrap_or self.old.making []) piece.now }) }

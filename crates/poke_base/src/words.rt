@@ -28,7 +28,7 @@ fn word_len(text: &[u8]) -> usize
         .unwrap_or(text.len())
 }
 
-/// The first word of a line, and what stands behind it. Spaces, tabs and carriage returns separate
+/// The first word of a line, and what stands after it. Spaces, tabs and carriage returns separate
 /// words. `None` where the line has no word.
 pub fn next_word(line: &[u8]) -> Option<(&[u8], &[u8])>
     ensures words { MatchOption result (words line.now ≡ []) (λ found. words line.now ≡ found.0.now ∷ words found.1.now) }

@@ -15,7 +15,7 @@ pub items-jump : items (record { at = 0x401000; old = Nop5; new = Jmp32 0x402000
 unfolding spell
 items-jump = refl
 
--- so many sites of five bytes, one behind the other
+-- n sites of five bytes, one after the other
 abbrev pub row : ℕ → ℕ → List Change
 row at zero = []
 row at (suc n) = record { at = at; old = Nop5; new = Jmp32 0x402000 } ∷ row (at + 5) n

@@ -21,7 +21,7 @@ unset_of [] some = absurd (cc)
 unset_of (false ∷ flags) some = record { index = 0; within = omega arith; unset = refl }
 unset_of (true ∷ flags) some =
     let rest = unset_of flags some in
-    record { index = suc rest.index; within = let behind = rest.within in omega arith; unset = rest.unset }
+    record { index = suc rest.index; within = let after = rest.within in omega arith; unset = rest.unset }
 
 -- where a synchronisation is due that not all have taken, some processor hasn't
 pub lacking : (stage : Stage) (round : Round) (requested : Bool) (chunk : List Change) (took : List Bool) (cpus : ℕ) → stage ≡ Sync round requested → length took ≤ cpus → list_all (λ flag. flag) took ≡ false → (cpu : ℕ) × (cpu < cpus) × (has_taken (walk_at stage chunk took) cpu ≡ false)

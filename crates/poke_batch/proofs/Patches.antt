@@ -6,7 +6,7 @@ use Rattle.insn_forms.specs.Spelling.{spell, size}
 use Rattle.poke_batch.specs.Clash.{held_bytes}
 use Rattle.poke_batch.specs.Poke.{spelled}
 
--- one byte more is the one behind
+-- one byte more is the one after
 pub held_bytes-suc : (held : ℕ → Option ℕ) (at n : ℕ) → held_bytes held at (suc n) ≡ held_bytes held at n ++ (unwrap_or (held (at + n)) 0 ∷ [])
 held_bytes-suc held at zero = rw add-zero refl
 held_bytes-suc held at (suc n) =

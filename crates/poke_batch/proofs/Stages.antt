@@ -23,7 +23,7 @@ use Rattle.poke_batch.specs.Walk.{BatchState, Walk, due_at, due_of, moved, moved
 use Rattle.poke_batch.proofs.Patches.{two-le-size}
 use Rattle.poke_batch.proofs.Walks.{taken-all, taken-some}
 
--- what is left of a site's tail, and of the chunk behind it
+-- what is left of a site's tail, and of the chunk after it
 abbrev rest_of : Change → ℕ → List ℕ → List Item
 rest_of c at bytes = map Puts (writes_from at bytes ++ []) ++ Syncs ∷ from_firsts (c ∷ [])
 
@@ -31,7 +31,7 @@ rest_of c at bytes = map Puts (writes_from at bytes ++ []) ++ Syncs ∷ from_fir
 abbrev in_tail : Change → List Bool → List Item → Option Walk
 in_tail c took left = Some (record (walk_in Trap (c ∷ []) took) { left = left })
 
--- behind the due byte of a tail is its next byte, or else the synchronisation
+-- after the due byte of a tail is its next byte, or else the synchronisation
 tail_moves : (c : Change) (took : List Bool) (place n : ℕ) (more : Bool) → length (spelled c.new c.at) ≡ n → place < n → nat_lt (place + 1) n ≡ more → walk_at (if more then Tail (place + 1) else Sync Tails false) (c ∷ []) took ≡ moved_at (rest_of c (c.at + place) (drop place (spelled c.new c.at))) (walk_in (Tail place) (c ∷ []) took)
 tail_moves c took place n true len lt is_more =
     let code : List ℕ = spelled c.new c.at in
@@ -46,7 +46,7 @@ tail_moves c took place n false len lt is_last =
     subst (λ (bytes : List ℕ). in_tail c took (Syncs ∷ from_firsts (c ∷ [])) ≡ moved_at (rest_of c (c.at + place) bytes) (walk_in (Tail place) (c ∷ []) took)) (sym (drop-cons code place 0 (omega arith)))
     (ap (λ bytes. in_tail c took (rest_of c ((c.at + place) + 1) bytes)) (sym none))
 
--- after the due item is done, the stage stands for the walk behind it
+-- after the due item is done, the stage stands for the walk after it
 stage_moves : (stage : Stage) (c : Change) (took : List Bool) → is_idle stage ≡ false → length (spelled c.new c.at) ≡ size c.new → IsInside (size c.new) stage → walk_at (after_due (size c.new) stage) (c ∷ []) took ≡ moved (walk_in stage (c ∷ []) took)
 stage_moves Idle c took active len inside = cc
 stage_moves Trap c took active len inside = refl
@@ -76,12 +76,12 @@ patched_moves stage patches took q n patched is size_is =
     where_open (is_idle stage) (walk_in stage (map change_of patches) took) (λ walk. walk_at (after_due n stage) (map change_of patches) took ≡ moved walk)
     (λ active. ap (λ k. walk_at (after_due k stage) (map change_of patches) took) size_is ∙ alone_moves stage patches took q active (subst (λ (idle : Bool). MatchBool idle ⊤ (IsAlone stage patches)) active patched) is)
 
--- behind the last chunk's synchronisation is what is left of it
+-- after the last chunk's synchronisation is what is left of it
 next_phase-last : (left : List Item) (walk : Walk) → next_phase left [] walk ≡ record walk { left = left }
 next_phase-last [] walk = refl
 next_phase-last (item ∷ left) walk = refl
 
--- the tails begin behind the first bytes
+-- the tails begin after the first bytes
 tails_from_one : (chunk : List Change) → tails_from 1 chunk ≡ tails chunk
 tails_from_one [] = refl
 tails_from_one (c ∷ chunk) = refl
@@ -93,24 +93,24 @@ unrequested (Puts w ∷ left) e = cc
 unrequested (Syncs ∷ left) e = cc
 
 -- the walk with what is left, where nobody has taken a request
-abbrev behind : List Change → ℕ → List Item → Walk
-behind chunk cpus left = record (walk_in Trap chunk (nobody cpus)) { left = left }
+abbrev after : List Change → ℕ → List Item → Walk
+after chunk cpus left = record (walk_in Trap chunk (nobody cpus)) { left = left }
 
--- after all processors have serialised, the stage stands for the walk behind that
+-- after all processors have serialised, the stage stands for the walk after that
 stage_passes : (stage : Stage) (chunk : List Change) (took : List Bool) → due_of (walk_at stage chunk took) ≡ Wait → walk_at (after_sync stage) chunk (nobody (length took)) ≡ Some (passed (walk_in stage chunk took))
 stage_passes Idle chunk took e = cc
 stage_passes Trap chunk took e = absurd (unrequested (left_at Trap chunk) e)
 stage_passes (Tail place) chunk took e = absurd (unrequested (left_at (Tail place) chunk) e)
 stage_passes First chunk took e = absurd (unrequested (left_at First chunk) e)
 stage_passes (Sync Traps requested) chunk took e =
-    ap (λ (writes : List Write). Some (behind chunk (length took) (map Puts writes ++ Syncs ∷ from_firsts chunk))) (tails_from_one chunk)
-    ∙ ap Some (sym (next_phase-last (from_tails chunk) (behind chunk (length took) (Syncs ∷ from_tails chunk))))
+    ap (λ (writes : List Write). Some (after chunk (length took) (map Puts writes ++ Syncs ∷ from_firsts chunk))) (tails_from_one chunk)
+    ∙ ap Some (sym (next_phase-last (from_tails chunk) (after chunk (length took) (Syncs ∷ from_tails chunk))))
 stage_passes (Sync Tails requested) chunk took e =
-    ap Some (sym (next_phase-last (from_firsts chunk) (behind chunk (length took) (Syncs ∷ from_firsts chunk))))
+    ap Some (sym (next_phase-last (from_firsts chunk) (after chunk (length took) (Syncs ∷ from_firsts chunk))))
 stage_passes (Sync Firsts requested) chunk took e = refl
 stage_passes Return chunk took e = absurd (unrequested [] e)
 
--- so it does behind the last acknowledgement
+-- so it does after the last acknowledgement
 pub stage_takes_last : (stage : Stage) (chunk : List Change) (acks : List Bool) (n cpu : ℕ) → n ≤ 16 → length acks ≡ 16 → cpu < n → due_of (walk_at stage chunk (take n acks)) ≡ Wait → list_all (λ flag. flag) (take n (set acks cpu true)) ≡ true → IfSome (walk_at stage chunk (take n acks)) (λ walk. walk_at (after_sync stage) chunk (take n (replicate 16 false)) ≡ Some (taken cpu walk))
 stage_takes_last stage chunk acks n cpu most len lt e all =
     let took : List Bool = take n acks in
@@ -143,7 +143,7 @@ idle_unasked First chunk took e = refl
 idle_unasked (Sync round requested) chunk took e = cc
 idle_unasked Return chunk took e = refl
 
--- a stage behind a synchronisation is one of the site
+-- a stage after a synchronisation is one of the site
 inside_after_sync : (stage : Stage) (n : ℕ) → 2 ≤ n → IsInside n stage → IsInside n (after_sync stage)
 inside_after_sync Idle n long inside = tt
 inside_after_sync Trap n long inside = tt
@@ -154,7 +154,7 @@ inside_after_sync (Sync Tails requested) n long inside = tt
 inside_after_sync (Sync Firsts requested) n long inside = tt
 inside_after_sync Return n long inside = tt
 
--- an update stays open behind a synchronisation
+-- an update stays open after a synchronisation
 idle_after_sync : (stage : Stage) → is_idle (after_sync stage) ≡ is_idle stage
 idle_after_sync Idle = refl
 idle_after_sync Trap = refl
@@ -172,7 +172,7 @@ alone_after_sync stage (p ∷ []) alone =
     (alone.0, inside_after_sync stage (size p.change.new) (two-le-size p.change.new) alone.1)
 alone_after_sync stage (p ∷ next ∷ patches) alone = alone
 
--- the fields of a batch stay sound behind a synchronisation
+-- the fields of a batch stay sound after a synchronisation
 pub patched_after_sync : (stage : Stage) (patches : List Patch) → IsPatched stage patches → IsPatched (after_sync stage) patches
 patched_after_sync stage patches patched =
     subst (λ (idle : Bool). MatchBool idle ⊤ (IsAlone (after_sync stage) patches)) (sym (idle_after_sync stage)) (by_idle (is_idle stage) patched)

@@ -55,7 +55,7 @@ moved-requests (Some walk) new step e =
     let kept : (due_of (moved walk) ≡ Wait) × (to_come (moved walk) ≡ to_come (Some walk)) = request_waits walk.left walk refl e in
     (ap (λ after. due_of after) step ∙ kept.0, ap (λ after. to_come after) step ∙ kept.1)
 
--- behind the last chunk a return is due where nothing is to come, and closes the update
+-- after the last chunk a return is due where nothing is to come, and closes the update
 return_closes : (left : List Item) (walk : Walk) → walk.later ≡ [] → due_at left walk.requested ≡ Return → (moved_at left walk ≡ None) × (left ++ flat_map poke walk.later ≡ [])
 return_closes [] walk last e = (refl, ap (flat_map poke) last)
 return_closes (Puts v ∷ left) walk last e = cc
@@ -68,7 +68,7 @@ moved-returns (Some walk) new step last e =
     let closed : (moved walk ≡ None) × (to_come (Some walk) ≡ []) = return_closes walk.left walk last e in
     (step ∙ closed.0, closed.1)
 
--- behind a synchronisation the items are those behind it
+-- after a synchronisation the items are those after it
 next_phase-to_come : (left : List Item) (later : List (List Change)) (walk : Walk) → walk.later ≡ later → to_come (Some (next_phase left later walk)) ≡ left ++ flat_map poke later
 next_phase-to_come (item ∷ left) later walk is = ap (λ chunks. (item ∷ left) ++ flat_map poke chunks) is
 next_phase-to_come [] (chunk ∷ later) walk is = refl
@@ -79,10 +79,10 @@ wait_is_next : (left : List Item) (walk : Walk) → walk.left ≡ left → due_a
 wait_is_next [] walk is e = cc
 wait_is_next (Puts v ∷ left) walk is e = cc
 wait_is_next (Syncs ∷ left) walk is e =
-    let behind : drop 1 walk.left ≡ left = ap (drop 1) is in
+    let after : drop 1 walk.left ≡ left = ap (drop 1) is in
     let next : to_come (Some (passed walk)) ≡ drop 1 walk.left ++ flat_map poke walk.later =
     next_phase-to_come (drop 1 walk.left) walk.later (record walk { requested = false; took = nobody (length walk.took) }) refl in
-    ap (λ items. items ++ flat_map poke walk.later) is ∙ ap (λ items. Syncs ∷ (items ++ flat_map poke walk.later)) (sym behind) ∙ ap (λ items. Syncs ∷ items) (sym next)
+    ap (λ items. items ++ flat_map poke walk.later) is ∙ ap (λ items. Syncs ∷ (items ++ flat_map poke walk.later)) (sym after) ∙ ap (λ items. Syncs ∷ items) (sym next)
 
 -- all flags are set where each one is
 all_set : (flags : List Bool) → ((i : ℕ) → i < length flags → get_or flags i false ≡ true) → list_all (λ flag. flag) flags ≡ true
@@ -133,7 +133,7 @@ due_at-unasked [] waits = absurd (cc)
 due_at-unasked (Puts w ∷ left) waits = absurd (cc)
 due_at-unasked (Syncs ∷ left) waits = absurd (cc)
 
--- behind a synchronisation nothing is waited for yet
+-- after a synchronisation nothing is waited for yet
 passed-unasked : (left : List Item) (later : List (List Change)) (walk : Walk) → walk.requested ≡ false → due_of (Some (next_phase left later walk)) ≢ Wait
 passed-unasked (item ∷ left) later walk unasked waits =
     due_at-unasked (item ∷ left) (subst (λ (r : Bool). due_at (item ∷ left) r ≡ Wait) unasked waits)

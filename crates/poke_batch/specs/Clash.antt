@@ -19,7 +19,7 @@ pub record CanPoke (held : ℕ → Option ℕ) (changes : List Change) : Type 0 
   pub each : All (IsPatchable held) changes
   pub apart : AllPairs (λ (c d : Change). c.at + size c.old ≤ d.at) changes
 
--- so many bytes of a text from an address on
+-- n bytes of a text from an address on
 abbrev pub held_bytes : (ℕ → Option ℕ) → ℕ → ℕ → List ℕ
 held_bytes held at zero = []
 held_bytes held at (suc n) = unwrap_or (held at) 0 ∷ held_bytes held (at + 1) n

@@ -1,5 +1,5 @@
 -- The items of a poke, as `text_poke_bp_batch` of Linux does them: INT3 into the first bytes, the tails,
--- the first bytes, and a synchronisation of all processors behind each of the three.
+-- the first bytes, and a synchronisation of all processors after each of the three.
 use Rattle.std.specs.Prelude.{ℕ, zero, suc, ◌+◌, List, [], ◌∷◌, ◌++◌, length, take, drop, map, slice_index, unwrap_or}
 use Rattle.std.specs.List.{flat_map}
 use Rattle.insn_forms.specs.declared.forms.Form.{Form}

@@ -17,7 +17,7 @@ pub record Walk : Type 0 where
   pub chunk : List Change
   -- the items of the open chunk that are still to come, the due one first
   pub left : List Item
-  -- the chunks behind the open one
+  -- the chunks after the open one
   pub later : List (List Change)
   -- whether the request of the due synchronisation was made
   pub requested : Bool
@@ -74,7 +74,7 @@ CanTake Request = ⊤
 CanTake Wait = ⊥
 CanTake Return = ⊤
 
--- the update after its due write, request or return was done: behind a return it is closed
+-- the update after its due write, request or return was done: after a return it is closed
 abbrev pub moved_at : List Item → Walk → Option Walk
 moved_at [] walk = None
 moved_at (Puts w ∷ left) walk = Some (record walk { left = left })
@@ -83,7 +83,7 @@ moved_at (Syncs ∷ left) walk = Some (record walk { requested = true })
 abbrev pub moved : Walk → Option Walk
 moved walk = moved_at walk.left walk
 
--- behind a synchronisation: what is left of the chunk, or else the next chunk
+-- after a synchronisation: what is left of the chunk, or else the next chunk
 abbrev pub next_phase : List Item → List (List Change) → Walk → Walk
 next_phase (item ∷ left) later walk = record walk { left = item ∷ left }
 next_phase [] (chunk ∷ later) walk = record walk { chunk = chunk; left = poke chunk; later = later }
@@ -93,7 +93,7 @@ abbrev pub passed : Walk → Walk
 passed walk =
     next_phase (drop 1 walk.left) walk.later (record walk { requested = false; took = nobody (length walk.took) })
 
--- the update after a processor has taken the request: behind the last one the next phase is due
+-- the update after a processor has taken the request: after the last one the next phase is due
 abbrev pub taken : ℕ → Walk → Walk
 taken cpu walk =
     let took = slice_set walk.took cpu true in

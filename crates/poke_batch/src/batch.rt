@@ -80,7 +80,7 @@ impl Batch {
     /// An idle batch with room for the changes of `sites` sites, for the processors 0 to `cpus - 1`.
     ///
     /// # Errors
-    /// Want of memory.
+    /// Out of memory.
     pub fn new(alloc: Global, sites: u32, cpus: u8) -> Result<Batch, NoMemory>
         requires one_site { sites ≡ 1 }
         requires some_cpus { 1 ≤ cpus }
@@ -148,14 +148,14 @@ impl Batch {
         }
     }
 
-    /// Moves on behind a due write, request or return, which the caller has done.
+    /// Moves on after a due write, request or return, which the caller has done.
     pub fn took(&mut self)
         requires { CanTake (due_of self.old.update) }
         ensures step { IfSome self.old.update (λ walk. self.new ≡ record self.old { update = moved walk }) }
         ensures wrote { (w : Write) → due_of self.old.update ≡ Due.Write w.at w.byte → to_come self.old.update ≡ Puts w ∷ to_come self.new.update }
         ensures requested { due_of self.old.update ≡ Due.Request → (due_of self.new.update ≡ Due.Wait) × (to_come self.new.update ≡ to_come self.old.update) }
         ensures returned { due_of self.old.update ≡ Due.Return → (self.new.update ≡ None) × (to_come self.old.update ≡ []) }
-        // A wait comes behind a request alone.
+        // A wait comes after a request alone.
         ensures unasked { due_of self.old.update ≢ Due.Request → due_of self.new.update ≢ Due.Wait }
         ensures same_sites { self.new.sites ≡ self.old.sites }
         ensures same_cpus { self.new.cpus ≡ self.old.cpus }
@@ -164,7 +164,7 @@ impl Batch {
         self.stage = self.stage.after_due(size);
     }
 
-    /// Notes that a processor has taken the request that stands. Behind the last one the next phase
+    /// Notes that a processor has taken the request that stands. After the last one the next phase
     /// is due. The processor has to be one that hasn't taken it yet.
     pub fn acked(&mut self, cpu: u8)
         requires waits { due_of self.old.update ≡ Due.Wait }

@@ -67,7 +67,7 @@ fn spelled(form: Form, at: u64) -> CodeBytes
     }
 }
 
-/// So many bytes of a text from an address on.
+/// N bytes of a text from an address on.
 fn held_bytes<T: Held>(text: &T, at: u64, size: u8) -> CodeBytes
     requires short { size ≤ 9 }
     requires below { at + size ≤ 2 ^ 64 }

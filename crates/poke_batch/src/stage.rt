@@ -2,7 +2,7 @@
 ghost use Rattle.poke_batch.specs.Stage.{after_due, after_sync, IsInside};
 ghost use Rattle.std.specs.Prelude.{◌≡◌, false};
 
-/// The rounds of a poke. Behind each of them all processors have to serialise.
+/// The rounds of a poke. After each of them all processors have to serialise.
 #[derive(Clone, Copy)]
 pub enum Round {
     /// INT3 into the first byte.
@@ -24,28 +24,28 @@ pub enum Stage {
     Tail(u8),
     /// The new first byte is to be written.
     First,
-    /// All processors are to serialise behind a round, and they may have been asked to.
+    /// All processors are to serialise after a round, and they may have been asked to.
     Sync { round: Round, requested: bool },
     /// The update is to be closed.
     Return,
 }
 
 impl Stage {
-    /// The stage after the due write, request or return, in a site of so many bytes.
+    /// The stage after the due write, request or return, in a site of n bytes.
     pub fn after_due(self, size: u8) -> Stage
         requires { IsInside size self }
         ensures { result ≡ after_due size self }
     {
         match self {
-            Stage::Trap => sync_behind(Round::Traps),
+            Stage::Trap => sync_after(Round::Traps),
             Stage::Tail(place) => {
                 if place + 1 < size {
                     Stage::Tail(place + 1)
                 } else {
-                    sync_behind(Round::Tails)
+                    sync_after(Round::Tails)
                 }
             }
-            Stage::First => sync_behind(Round::Firsts),
+            Stage::First => sync_after(Round::Firsts),
             Stage::Sync { round, .. } => Stage::Sync {
                 round,
                 requested: true,
@@ -69,8 +69,8 @@ impl Stage {
     }
 }
 
-/// The synchronisation behind a round. It wasn't requested yet.
-fn sync_behind(round: Round) -> Stage
+/// The synchronisation after a round. It wasn't requested yet.
+fn sync_after(round: Round) -> Stage
     ensures { result ≡ Stage.Sync round false }
 {
     Stage::Sync {

@@ -47,7 +47,7 @@ check_done name old middle new out m reads accepts prints =
       says = accepted_says out m accepts;
     })
 
--- or a front of it
+-- or a prefix of it
 pub check_cut : (name : List ℕ) (old middle new : Outside) (out : List ℕ) (m : Module) (why : WriteFail) → ReadsFile {T = Unit {0}} old middle name module_limit out (Ok tt) → Accepts out m → Prints {T = Unit {0}} {E = WriteFail} middle new (accepted_text m.base m.text m.sites) (Err why) → ShowsFile (CheckRow name) old new (Err Write)
 check_cut name old middle new out m why reads accepts prints =
     file_cut (CheckRow name) old middle new name out (accepted_text m.base m.text m.sites) module_limit why refl reads prints

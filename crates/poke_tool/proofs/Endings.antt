@@ -51,7 +51,7 @@ no_fault_is_0 Read status is zero_is = omega arith
 no_fault_is_0 Write status is zero_is = omega arith
 no_fault_is_0 Memory status is zero_is = omega arith
 
--- the fault of a command is complained
+-- the fault of a command is reported
 complained_fault : (row : Row) (old middle new : Outside) (fault : Fault) (status : ℕ) → Keeps row old middle (Err fault) → Ends middle new (Err fault) status → Complained old new status fault
 complained_fault row old middle new fault status keeps (is, (sent, complains)) = record {
   status_is = is;
@@ -183,7 +183,7 @@ command_aloud row old middle new (Ok done) status keeps ends =
 command_aloud row old middle new (Err fault) status keeps ends =
     inr (fault, complained_fault row old middle new fault status keeps ends)
 
--- every fault is complained
+-- every fault is reported
 pub ends_aloud : (row : Option Row) (old new : Outside) (status : ℕ) → RunsRow row old new status → EndsAloud old new status
 ends_aloud None old new status runs =
     let ends = rw (runs.does.1, runs.does.0) at runs.ends in
@@ -215,7 +215,7 @@ one_text outside file a b told first second = go outside.files refl told
         let other = second files is in
         cc
 
--- no refusal stands behind the last place of the order
+-- no refusal stands after the last place of the order
 order_below : (why : ElfRefused) → order why < 13
 order_below (Short n) = lit< tt
 order_below (Magic n) = lit< tt
@@ -417,7 +417,7 @@ ends_by_answer row old middle new (Err Write) status keeps prints (is, (sent, co
     record {
       done = λ zero_is. absurd (omega arith);
       refused = λ either. absurd (not_refused either);
-      cut = λ six. (prints.0, says, record { part = prints.2.part; front = prints.2.front; printed = Tells-trans _ middle.printed new.printed prints.2.printed complains.printed });
+      cut = λ six. (prints.0, says, record { part = prints.2.part; prefix = prints.2.prefix; printed = Tells-trans _ middle.printed new.printed prints.2.printed complains.printed });
       refuses = λ why told refused. absurd (says_apart row new prints.0 why told says refused);
       complete = λ text told said no_read no_write. absurd (no_write (subst (λ (n : ℕ). Rose old.write_faults n) (sym complains.write_faults) keeps.failed));
     }
@@ -446,7 +446,7 @@ make_prints n name old middle (Err Write) does = (
   refl,
   record {
     part = [];
-    front = refl;
+    prefix = refl;
     printed = Tells-trans _ old.printed middle.printed (Tells-no_more old.printed) does.printed;
   },
 )
@@ -482,7 +482,7 @@ make_by_answer n name old middle new (Err Write) status does (is, (sent, complai
     bytes = does.makes.bytes;
     is_module = does.makes.is_module;
     part = does.makes.part;
-    front = does.makes.front;
+    prefix = does.makes.prefix;
     files = files_later does.makes.files;
   };
   only = inr (inl is);

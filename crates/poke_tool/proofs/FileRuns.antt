@@ -6,10 +6,10 @@ use Rattle.poke_base.specs.declared.host.AskedBy.TheVariants.{Read as AskedRead}
 use Rattle.poke_base.specs.declared.host.ReadFail.{ReadFail}
 use Rattle.poke_base.specs.declared.host.ReadFail.TheVariants.{TooLong as FileTooLong}
 use Rattle.poke_base.specs.declared.host.WriteFail.{WriteFail}
-use Rattle.poke_base.specs.Text.{IsFront}
+use Rattle.poke_base.specs.Text.{IsPrefix}
 use Rattle.poke_base.specs.Host.{Files, Outside, ReadsFile, Prints, Rose, Tells, with_more}
 use Rattle.poke_base.proofs.Outsides.{Tells-trans}
-use Rattle.insn_forms.proofs.Spellings.{front-length}
+use Rattle.insn_forms.proofs.Spellings.{prefix-length}
 use Rattle.poke_tool.specs.declared.fault.Fault.{Fault}
 use Rattle.poke_tool.specs.declared.fault.Fault.TheVariants.{Write}
 use Rattle.poke_tool.specs.Command.{Row, file_words}
@@ -64,9 +64,9 @@ pub held_at_once : (old new : Outside) (file out : List ℕ) (limit : ℕ) → R
 held_at_once old new file out limit reads files told = (reads.contents files told).whole
 
 -- a text that begins with a text that isn't empty isn't missing
-held_text : (file : Option (List ℕ)) (out : List ℕ) → 0 < length out → IsFront out (unwrap_or file []) → file ≡ Some (unwrap_or file [])
-held_text None out some front = absurd (let short = front-length out [] front in omega arith)
-held_text (Some text) out some front = refl
+held_text : (file : Option (List ℕ)) (out : List ℕ) → 0 < length out → IsPrefix out (unwrap_or file []) → file ≡ Some (unwrap_or file [])
+held_text None out some prefix = absurd (let short = prefix-length out [] prefix in omega arith)
+held_text (Some text) out some prefix = refl
 
 -- a file that is longer than its limit
 pub record IsLong (outside : Outside) (file : List ℕ) (limit : ℕ) : Type 0 where
@@ -81,13 +81,13 @@ long_told old new file out limit None untold reads =
     record { text = out; holds = λ files told. absurd (cc); long = omega arith }
 long_told old new file out limit (Some files) told reads =
     let long = reads.too_long refl in
-    let front = (reads.contents files told).front in
+    let prefix = (reads.contents files told).prefix in
     record {
       text = unwrap_or (get files file) [];
       holds = λ others also.
           let same : files ≡ others = cc in
-          subst (λ (fs : Files). get fs file ≡ Some (unwrap_or (get files file) [])) same (held_text (get files file) out (omega arith) front);
-      long = let at_least = front-length out (unwrap_or (get files file) []) front in omega arith;
+          subst (λ (fs : Files). get fs file ≡ Some (unwrap_or (get files file) [])) same (held_text (get files file) out (omega arith) prefix);
+      long = let at_least = prefix-length out (unwrap_or (get files file) []) prefix in omega arith;
     }
 
 pub long_file : (old new : Outside) (file out : List ℕ) (limit : ℕ) → ReadsFile {T = Unit {0}} old new file limit out (Err FileTooLong) → IsLong new file limit
@@ -130,7 +130,7 @@ file_done row old middle new file out text limit only reads prints says = record
   prints = (text, says, printed_later old.printed middle.printed new.printed text reads.printed prints.printed.whole);
 }
 
--- a front of it was printed
+-- a prefix of it was printed
 pub file_cut : (row : Row) (old middle new : Outside) (file out text : List ℕ) (limit : ℕ) (why : WriteFail) → ReadsOnly row file → ReadsFile {T = Unit {0}} old middle file limit out (Ok tt) → Prints {T = Unit {0}} {E = WriteFail} middle new text (Err why) → Says row new (Ok text) → ShowsFile row old new (Err Write)
 file_cut row old middle new file out text limit why only reads prints says = record {
   keeps = keeps_printed row old middle new file out text limit (Err why) (Err Write) only (subst (λ (n : ℕ). Rose n new.write_faults) reads.write_faults prints.failed) reads prints;
@@ -141,7 +141,7 @@ file_cut row old middle new file out text limit why only reads prints says = rec
     says,
     record {
       part = prints.printed.part.0;
-      front = prints.printed.part.1;
+      prefix = prints.printed.part.1;
       printed = printed_later old.printed middle.printed new.printed prints.printed.part.0 reads.printed prints.printed.part.2;
     },
   );

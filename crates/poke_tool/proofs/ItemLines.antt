@@ -24,7 +24,7 @@ take_more {X = X} xs i x there =
     let next : i + 1 ≡ suc i = omega arith in
     ap (λ (n : ℕ). take n xs) next ∙ take_suc xs i x there
 
--- with those behind it they are the list
+-- with those after it they are the list
 whole_suc : {X : Type 0} (xs : List X) (i : ℕ) (x : X) → slice_get xs i ≡ Some x → (take i xs ++ (x ∷ [])) ++ drop (suc i) xs ≡ xs
 whole_suc {X = X} [] i x there = absurd (none_there i x there)
 whole_suc {X = X} (y ∷ ys) zero x there =
@@ -45,7 +45,7 @@ lines_more {X = X} line xs i x there =
     ∙ ap (λ (ys : List ℕ). flat_map line (take i xs) ++ ys) (append-nil (line x))
     )
 
--- and of those behind it
+-- and of those after it
 lines_whole : {X : Type 0} (line : X → List ℕ) (xs : List X) (i : ℕ) (x : X) → slice_get xs i ≡ Some x → (flat_map line (take i xs) ++ line x) ++ flat_map line (drop (i + 1) xs) ≡ flat_map line xs
 lines_whole {X = X} line xs i x there =
     sym (

@@ -74,7 +74,7 @@ file_not_written n old middle new name bytes why is_module makes appends = recor
     bytes = bytes;
     is_module = is_module;
     part = appends.part.0;
-    front = appends.part.1;
+    prefix = appends.part.1;
     files = inr (made_with old middle new name appends.part.0 makes.making makes.made appends.part.2);
   };
 }

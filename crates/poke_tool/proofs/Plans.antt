@@ -26,7 +26,7 @@ use Rattle.poke_tool.specs.declared.plan_line.SiteBytes.{SiteBytes}
 use Rattle.poke_tool.specs.SiteBytes.{site_byte}
 use Rattle.poke_tool.specs.PlanLine.{IsPlan}
 use Rattle.insn_forms.specs.Write.{Write as WriteItem}
-use Rattle.poke_tool.specs.Plan.{item_line, to_print, behind_wait}
+use Rattle.poke_tool.specs.Plan.{item_line, to_print, after_wait}
 
 -- a byte of the site
 site_byte-inside : (site : SiteBytes) (j : ℕ) → site_byte site (site.at + j) ≡ slice_get site.bytes.items j
@@ -166,12 +166,12 @@ idle_done (Some walk) idle = absurd (not_idle walk.left walk.requested idle)
     not_idle (Syncs ∷ left) false idle = absurd (cc)
 
 -- but at a wait, what is still to come is still to be printed
-behind_wait-other : (due : Due) (items : List Item) → due ≢ Wait → behind_wait due items ≡ items
-behind_wait-other Idle items other = refl
-behind_wait-other (Write at byte) items other = refl
-behind_wait-other Request items other = refl
-behind_wait-other Wait items other = absurd (other refl)
-behind_wait-other Return items other = refl
+after_wait-other : (due : Due) (items : List Item) → due ≢ Wait → after_wait due items ≡ items
+after_wait-other Idle items other = refl
+after_wait-other (Write at byte) items other = refl
+after_wait-other Request items other = refl
+after_wait-other Wait items other = absurd (other refl)
+after_wait-other Return items other = refl
 
 -- a due write is the next item
 pub write_next : (old new : Option Walk) (at byte : ℕ) → due_of old ≡ Write at byte → ((w : WriteItem) → due_of old ≡ Write w.at w.byte → to_come old ≡ Puts w ∷ to_come new) → (due_of old ≢ Request → due_of new ≢ Wait) → to_print old ≡ Puts (record { at = at; byte = byte }) ∷ to_print new
@@ -179,16 +179,16 @@ write_next old new at byte due wrote unasked =
     let write : WriteItem = record { at = at; byte = byte } in
     let no_wait : due_of old ≢ Wait = λ waits. absurd (cc) in
     let no_request : due_of old ≢ Request = λ requests. absurd (cc) in
-    behind_wait-other (due_of old) (to_come old) no_wait ∙ wrote write due
-    ∙ ap (λ (items : List Item). Puts write ∷ items) (sym (behind_wait-other (due_of new) (to_come new) (unasked no_request)))
+    after_wait-other (due_of old) (to_come old) no_wait ∙ wrote write due
+    ∙ ap (λ (items : List Item). Puts write ∷ items) (sym (after_wait-other (due_of new) (to_come new) (unasked no_request)))
 
 -- a due write is the first item
 pub write_first : (update : Option Walk) (at byte : ℕ) → due_of update ≡ Write at byte → to_print update ≡ Puts (record { at = at; byte = byte }) ∷ drop 1 (to_print update)
 write_first None at byte due = absurd (cc)
 write_first (Some walk) at byte due =
     let no_wait : due_of (Some walk) ≢ Wait = λ waits. absurd (cc) in
-    let front : walk.left ++ flat_map poke walk.later ≡ Puts (record { at = at; byte = byte }) ∷ drop 1 (walk.left ++ flat_map poke walk.later) = first walk.left walk.requested (flat_map poke walk.later) due in
-    subst (λ (items : List Item). items ≡ Puts (record { at = at; byte = byte }) ∷ drop 1 items) (sym (behind_wait-other (due_of (Some walk)) (to_come (Some walk)) no_wait)) front
+    let prefix : walk.left ++ flat_map poke walk.later ≡ Puts (record { at = at; byte = byte }) ∷ drop 1 (walk.left ++ flat_map poke walk.later) = first walk.left walk.requested (flat_map poke walk.later) due in
+    subst (λ (items : List Item). items ≡ Puts (record { at = at; byte = byte }) ∷ drop 1 items) (sym (after_wait-other (due_of (Some walk)) (to_come (Some walk)) no_wait)) prefix
   where
     first : (left : List Item) (requested : Bool) (later : List Item) → due_at left requested ≡ Write at byte → left ++ later ≡ Puts (record { at = at; byte = byte }) ∷ drop 1 (left ++ later)
     first [] requested later due = absurd (cc)
@@ -213,14 +213,14 @@ request_first (Some walk) due = first walk.left walk.requested (flat_map poke wa
 pub request_printed : (update : Option Walk) → due_of update ≡ Request → to_print update ≡ Syncs ∷ drop 1 (to_print update)
 request_printed update due =
     let no_wait : due_of update ≢ Wait = λ waits. absurd (cc) in
-    subst (λ (items : List Item). items ≡ Syncs ∷ drop 1 items) (sym (behind_wait-other (due_of update) (to_come update) no_wait)) (request_first update due)
+    subst (λ (items : List Item). items ≡ Syncs ∷ drop 1 items) (sym (after_wait-other (due_of update) (to_come update) no_wait)) (request_first update due)
 
 -- its line is printed at the request
 pub request_next : (old new : Option Walk) → due_of old ≡ Request → due_of new ≡ Wait → to_come new ≡ to_come old → to_print old ≡ Syncs ∷ to_print new
 request_next old new due waits same =
     let no_wait : due_of old ≢ Wait = λ also. absurd (cc) in
-    let rest : to_print new ≡ drop 1 (to_come old) = ap (λ (d : Due). behind_wait d (to_come new)) waits ∙ ap (λ (items : List Item). drop 1 items) same in
-    behind_wait-other (due_of old) (to_come old) no_wait ∙ request_first old due
+    let rest : to_print new ≡ drop 1 (to_come old) = ap (λ (d : Due). after_wait d (to_come new)) waits ∙ ap (λ (items : List Item). drop 1 items) same in
+    after_wait-other (due_of old) (to_come old) no_wait ∙ request_first old due
     ∙ ap (λ (items : List Item). Syncs ∷ items) (sym rest)
 
 -- a failed print is the same whatever its error, which has one value

@@ -31,7 +31,7 @@ range-more n =
     let from : 0 + n ≡ n = omega arith in
     range-append 0 n 1 ∙ ap (λ (b : ℕ). range_with_len 0 n ++ (b ∷ [])) from
 
--- the numbers before, at and behind one of them
+-- the numbers before, at and after one of them
 range-split : (n i : ℕ) → i < n → range_with_len 0 n ≡ (range_with_len 0 i ++ (i ∷ [])) ++ range_with_len (i + 1) (n - (i + 1))
 range-split n i below =
     let parts : n ≡ i + 1 + (n - (i + 1)) = omega arith in
@@ -48,7 +48,7 @@ lines-more line i =
     ∙ ap (λ (xs : List ℕ). flat_map line (range_with_len 0 i) ++ xs) (append-nil (line i))
     )
 
--- lines of the first entries, of one more, and of those behind
+-- lines of the first entries, of one more, and of those after
 lines-split : (line : ℕ → List ℕ) (n i : ℕ) → i < n → (flat_map line (range_with_len 0 i) ++ line i) ++ flat_map line (range_with_len (i + 1) (n - (i + 1))) ≡ flat_map line (range_with_len 0 n)
 lines-split line n i below =
     sym (

@@ -162,14 +162,14 @@ zeros-short out n z short =
 filled-short : (out : List ℕ) → length (filled out) ≤ length out + 16
 filled-short out = zeros-short out ((length out + 15) / 16 * 16 - length out) 0 (omega arith)
 
--- how long a file is at most when the sections are laid behind it
+-- how long a file is at most when the sections are laid after it
 pub laid-short : (plan : Plan) (parts : List Part) (out : List ℕ) → length (laid plan out parts) ≤ length out + room plan parts
 laid-short plan [] out = filled-short out
 laid-short plan (part ∷ parts) out =
     let rest = laid-short plan parts (filled out ++ content_of plan part) in
-    let front = filled-short out in
+    let prefix = filled-short out in
     let joined : length (filled out ++ content_of plan part) ≡ length (filled out) + length (content_of plan part) = length-append (filled out) (content_of plan part) in
-    three (length (laid plan (filled out ++ content_of plan part) parts)) (length (filled out ++ content_of plan part)) (length (filled out)) (length out) (length (content_of plan part)) (room plan parts) rest front joined
+    three (length (laid plan (filled out ++ content_of plan part) parts)) (length (filled out ++ content_of plan part)) (length (filled out)) (length out) (length (content_of plan part)) (room plan parts) rest prefix joined
   where
     three : (whole next full before content rest : ℕ) → whole ≤ next + rest → full ≤ before + 16 → next ≡ full + content → whole ≤ before + (content + 16 + rest)
     three whole next full before content rest a b c = omega arith

@@ -12,14 +12,14 @@ pub field-drop : (n from at : ℕ) (bytes : List ℕ) → field n (from + at) by
 unfolding field
 field-drop n from at bytes = ap (little_number n) (sym (drop-drop at from bytes))
 
--- what stands behind a list
-pub drop-behind : (xs ys : List ℕ) (n at : ℕ) → length xs ≡ n → drop (n + at) (xs ++ ys) ≡ drop at ys
-drop-behind xs ys n at long = sym (drop-drop at n (xs ++ ys)) ∙ ap (λ (l : List ℕ). drop at l) (drop_at xs ys n long)
+-- what stands after a list
+pub drop-after : (xs ys : List ℕ) (n at : ℕ) → length xs ≡ n → drop (n + at) (xs ++ ys) ≡ drop at ys
+drop-after xs ys n at long = sym (drop-drop at n (xs ++ ys)) ∙ ap (λ (l : List ℕ). drop at l) (drop_at xs ys n long)
 
 -- a number in front
-pub field-front : (n x : ℕ) (rest : List ℕ) → x < 256 ^ n → field n 0 (little_bytes n x ++ rest) ≡ x
+pub field-prefix : (n x : ℕ) (rest : List ℕ) → x < 256 ^ n → field n 0 (little_bytes n x ++ rest) ≡ x
 unfolding field
-field-front n x rest below = little_number-reads_back n x rest below
+field-prefix n x rest below = little_number-reads_back n x rest below
 
 -- the fields of a section's header
 module _ (header : Header) (offset size : ℕ) (rest : List ℕ) where

@@ -14,7 +14,7 @@ use Rattle.elf_build.specs.File.{data_at, data_of, entry_bytes, key_at, parts, s
 use Rattle.poke_tool.specs.Written.{no_section, section_of_part, sections_from}
 use Rattle.poke_tool.proofs.WrittenBounds.{Bounds, length-data, length-entry, length-start, length-table}
 
--- the bytes of each key stand behind those before
+-- the bytes of each key stand after those before
 data-byte : (keys : List PlanKey) (i : ℕ) (key : PlanKey) (j : ℕ) → slice_get keys i ≡ Some key → j < 16
     → slice_index (data_of keys) (16 * i + j) ≡ slice_index (start_bytes key.start) j
 data-byte [] i key j is below = absurd (cc)
@@ -56,8 +56,8 @@ data-covers plan ok off below =
     let calls = length-table (entry_bytes Calls plan) (length-entry Calls plan) plan.sites.items (table_at Calls plan) in
     let traces = length-table (entry_bytes Traces plan) (length-entry Traces plan) plan.sites.items (table_at Traces plan) in
     let found = Some (section_of_part plan 5 Data) in
-    let behind = sections_from plan 6 (Symbols ∷ Names ∷ SectionNames ∷ []) in
-    let data_on = section_of_part plan 5 Data ∷ behind in
+    let after = sections_from plan 6 (Symbols ∷ Names ∷ SectionNames ∷ []) in
+    let data_on = section_of_part plan 5 Data ∷ after in
     let trace_on = section_of_part plan 4 (Entries Traces) ∷ data_on in
     let call_on = section_of_part plan 3 (Entries Calls) ∷ trace_on in
     let jump_on = section_of_part plan 2 (Entries Jumps) ∷ call_on in
@@ -66,7 +66,7 @@ data-covers plan ok off below =
     (find-skip p (section_of_part plan 2 (Entries Jumps)) call_on found (covers-not (section_of_part plan 2 (Entries Jumps)) at (omega arith))
     (find-skip p (section_of_part plan 3 (Entries Calls)) trace_on found (covers-not (section_of_part plan 3 (Entries Calls)) at (omega arith))
     (find-skip p (section_of_part plan 4 (Entries Traces)) data_on found (covers-not (section_of_part plan 4 (Entries Traces)) at (omega arith))
-    (find-here p (section_of_part plan 5 Data) behind
+    (find-here p (section_of_part plan 5 Data) after
     (and_from (nat_le (data_at plan) at) (nat_lt (at - data_at plan) (length (data_of plan.keys.items)))
     (le-leb (data_at plan) at (omega arith)) (lt-ltb (at - data_at plan) (length (data_of plan.keys.items)) (omega arith))))))))
 

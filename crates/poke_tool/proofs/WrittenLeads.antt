@@ -55,7 +55,7 @@ pub on-round : (at target : ℕ) (set : Bool) → at ≤ target → target + 1 <
 on-round at target true on below = omega arith
 on-round at target false on below = omega arith
 
--- the front of a number's bytes is what it is modulo a power of 256
+-- the prefix of a number's bytes is what it is modulo a power of 256
 pub low-part : (n x : ℕ) (rest : List ℕ) → field n 0 (little_bytes n x ++ rest) ≡ x % 256 ^ n
 unfolding field
 low-part n x rest = little_from-bytes n 0 x rest ∙ ap (λ (y : ℕ). y % 256 ^ n) (div-one x)

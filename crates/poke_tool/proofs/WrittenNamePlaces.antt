@@ -1,4 +1,4 @@
--- Names with an ending zero, one behind the other.
+-- Names with an ending zero, one after the other.
 use Rattle.std.proofs.Common.{◌≡◌, ◌<◌, ◌+◌, ◌∙◌, ℕ, Bool, true, List, [], ◌∷◌, ◌++◌, length, get_or, drop, refl, sym, ap, arith, append_assoc, one-add}
 use Rattle.std.specs.Prelude.{not, nat_eq}
 use Rattle.std.specs.List.{before_first, list_all}
@@ -18,38 +18,38 @@ before-zero (byte ∷ name) rest full =
     let parts = and_parts (not (nat_eq byte 0)) (is_full name) full in
     rw (not-true (nat_eq byte 0) parts.0) (simp one-add (ap (λ (l : List ℕ). byte ∷ l) (before-zero name rest parts.1)))
 
--- a name of a table, behind a front
-module _ (names front name tail : List ℕ) (is : names ≡ front ++ ((name ++ 0 ∷ []) ++ tail)) where
+-- a name of a table, after a prefix
+module _ (names prefix name tail : List ℕ) (is : names ≡ prefix ++ ((name ++ 0 ∷ []) ++ tail)) where
   -- what stands from the name on
-  behind : drop (length front) names ≡ name ++ 0 ∷ tail
-  behind =
-      ap (λ (l : List ℕ). drop (length front) l) is ∙ drop_at front ((name ++ 0 ∷ []) ++ tail) (length front) refl
+  after : drop (length prefix) names ≡ name ++ 0 ∷ tail
+  after =
+      ap (λ (l : List ℕ). drop (length prefix) l) is ∙ drop_at prefix ((name ++ 0 ∷ []) ++ tail) (length prefix) refl
       ∙ append_assoc name (0 ∷ []) tail
 
   -- the name is read at its place
-  pub name-read : is_full name ≡ true → name_in names (length front) ≡ name
-  name-read full = ap (before_first (λ byte. nat_eq byte 0)) behind ∙ before-zero name tail full
+  pub name-read : is_full name ≡ true → name_in names (length prefix) ≡ name
+  name-read full = ap (before_first (λ byte. nat_eq byte 0)) after ∙ before-zero name tail full
 
   -- the name has an ending zero
-  pub name-there : HasName names (length front)
+  pub name-there : HasName names (length prefix)
   name-there =
-      let long : length (drop (length front) names) ≡ length name + length (0 ∷ tail) = ap length behind ∙ length-append name (0 ∷ tail) in
-      (length name, omega arith, ap (λ (l : List ℕ). get_or l (length name) 0) behind ∙ get_or_at name 0 tail 0 (length name) refl)
+      let long : length (drop (length prefix) names) ≡ length name + length (0 ∷ tail) = ap length after ∙ length-append name (0 ∷ tail) in
+      (length name, omega arith, ap (λ (l : List ℕ). get_or l (length name) 0) after ∙ get_or_at name 0 tail 0 (length name) refl)
 
-  -- the rest stands behind the name
-  pub name-next : names ≡ (front ++ (name ++ 0 ∷ [])) ++ tail
-  name-next = is ∙ sym (append_assoc front (name ++ 0 ∷ []) tail)
+  -- the rest stands after the name
+  pub name-next : names ≡ (prefix ++ (name ++ 0 ∷ [])) ++ tail
+  name-next = is ∙ sym (append_assoc prefix (name ++ 0 ∷ []) tail)
 
   -- the name begins inside the table
-  pub front-short : length front < length names
-  front-short =
-      let long : length names ≡ length front + length ((name ++ 0 ∷ []) ++ tail) = ap length is ∙ length-append front ((name ++ 0 ∷ []) ++ tail) in
+  pub prefix-short : length prefix < length names
+  prefix-short =
+      let long : length names ≡ length prefix + length ((name ++ 0 ∷ []) ++ tail) = ap length is ∙ length-append prefix ((name ++ 0 ∷ []) ++ tail) in
       let more : length ((name ++ 0 ∷ []) ++ tail) ≡ length name + length (0 ∷ tail) = ap length (append_assoc name (0 ∷ []) tail) ∙ length-append name (0 ∷ tail) in
       omega arith
 
--- how long a front is with one name more
-pub longer-front : (front name : List ℕ) → length (front ++ (name ++ 0 ∷ [])) ≡ length front + length name + 1
-longer-front front name =
-    let a = length-append front (name ++ 0 ∷ []) in
+-- how long a prefix is with one name more
+pub longer-prefix : (prefix name : List ℕ) → length (prefix ++ (name ++ 0 ∷ [])) ≡ length prefix + length name + 1
+longer-prefix prefix name =
+    let a = length-append prefix (name ++ 0 ∷ []) in
     let b : length (name ++ 0 ∷ []) ≡ length name + 1 = length-append name (0 ∷ []) in
     omega arith

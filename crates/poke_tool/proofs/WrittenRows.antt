@@ -1,4 +1,4 @@
--- A list that is read in pieces of one size, from its front on.
+-- A list that is read in pieces of one size, from its prefix on.
 use Rattle.std.proofs.Common.{◌≡◌, ◌<◌, ◌≤◌, ◌+◌, ◌*◌, ◌/◌, ◌∙◌, ℕ, zero, suc, Bool, true, List, [], ◌∷◌, ◌++◌, length, map, drop, refl, sym, ap, subst, arith}
 use Rattle.std.specs.List.{flat_map, range_with_len, list_all}
 use Rattle.std.proofs.Math.Nat.{add-div_left, mul-add, mul-one, mul-zero, zero-div, add-zero}
@@ -7,7 +7,7 @@ use Rattle.std.proofs.lemmas.Bool.{and_parts}
 use Rattle.std.proofs.lemmas.List.{length-append}
 use Rattle.elf_build.specs.declared.plan.PlanSite.{PlanSite}
 use Rattle.elf_build.specs.File.{table_from}
-use Rattle.poke_tool.proofs.WrittenFields.{drop-behind}
+use Rattle.poke_tool.proofs.WrittenFields.{drop-after}
 
 -- values from an index on are those of the function that begins there
 pub range-next : {A : Type 0} (f : ℕ → A) (m n : ℕ) → map f (range_with_len (n + 1) m) ≡ map (λ i. f (i + 1)) (range_with_len n m)
@@ -40,7 +40,7 @@ next-start start size k = let e : size * (k + 1) ≡ size * k + size = mul-add s
 pub next-drop : (size i : ℕ) (piece rest : List ℕ) → length piece ≡ size → drop (size * (i + 1)) (piece ++ rest) ≡ drop (size * i) rest
 next-drop size i piece rest long =
     let e : size * (i + 1) ≡ size + size * i = mul-add size i 1 ∙ ap (λ (n : ℕ). size * i + n) (mul-one size) ∙ swap (size * i) size in
-    ap (λ (n : ℕ). drop n (piece ++ rest)) e ∙ drop-behind piece rest size (size * i) long
+    ap (λ (n : ℕ). drop n (piece ++ rest)) e ∙ drop-after piece rest size (size * i) long
   where
     swap : (a b : ℕ) → a + b ≡ b + a
     swap a b = omega arith

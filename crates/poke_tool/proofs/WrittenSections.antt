@@ -183,7 +183,7 @@ laid-file plan whole zeros headers some short count empty is are =
           (header-next file zeros headers (e_shoff file) 0 blank first ∙ are);
     }
 
--- there are eight headers behind the first
+-- there are eight headers after the first
 eight : (plan : Plan) → length (headers_from plan (replicate 64 0) parts) ≡ 512
 unfolding parts
 eight plan = length-headers plan parts (replicate 64 0)

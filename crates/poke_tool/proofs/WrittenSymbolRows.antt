@@ -15,7 +15,7 @@ use Rattle.poke_tool.specs.Written.{no_section, no_symbol, section_of_part, sect
 use Rattle.poke_tool.proofs.WrittenFields.{field-drop, symbol-name, symbol-info, symbol-shndx, symbol-value}
 use Rattle.poke_tool.proofs.WrittenBounds.{Bounds, name-full, length-names, length-symbols}
 use Rattle.poke_tool.proofs.WrittenRows.{rows-more, next-drop}
-use Rattle.poke_tool.proofs.WrittenNamePlaces.{name-read, name-there, name-next, front-short, longer-front}
+use Rattle.poke_tool.proofs.WrittenNamePlaces.{name-read, name-there, name-next, prefix-short, longer-prefix}
 use Rattle.poke_tool.proofs.WrittenTables.{inside}
 
 -- a symbol is read as it was written
@@ -28,7 +28,7 @@ symbol-read names name info shndx value size rest text name_fits shndx_fits valu
     let value_is = symbol-value name info shndx value size rest value_fits in
     λ i. record { name = name_is i; info = info_is i; shndx = shndx_is i; value = value_is i }
 
--- values are the symbols that stand in entries one behind the other
+-- values are the symbols that stand in entries one after the other
 abbrev pub AreSymbols : List ℕ → List ℕ → (ℕ → SymbolRecord) → Type 0
 AreSymbols names entries f = (i : ℕ) → f i ≡ symbol_in names (drop (24 * i) entries)
 
@@ -45,43 +45,43 @@ symbols-more names name info shndx value size rest x more is others f reads =
 -- the functions are read, whose names stand in the table from a place on
 pub functions-read : (plan : Plan) → Bounds plan → (names tail rest : List ℕ) (more : List SymbolRecord) → length names < 256 ^ 4
     → ((g : ℕ → SymbolRecord) → AreSymbols names rest g → map g (range_with_len 0 (length rest / 24)) ≡ more)
-    → (functions : List PlanFunction) (front : List ℕ) (name : ℕ) → name ≡ length front → names ≡ front ++ (names_of_functions functions ++ tail)
+    → (functions : List PlanFunction) (prefix : List ℕ) (name : ℕ) → name ≡ length prefix → names ≡ prefix ++ (names_of_functions functions ++ tail)
     → list_all (function_fits plan) functions ≡ true → (f : ℕ → SymbolRecord) → AreSymbols names (function_symbols name functions ++ rest) f
     → map f (range_with_len 0 (length (function_symbols name functions ++ rest) / 24)) ≡ map function_symbol functions ++ more
-functions-read plan ok names tail rest more short others [] front name place is all f reads = others f reads
-functions-read plan ok names tail rest more short others (function ∷ functions) front name place is all f reads =
+functions-read plan ok names tail rest more short others [] prefix name place is all f reads = others f reads
+functions-read plan ok names tail rest more short others (function ∷ functions) prefix name place is all f reads =
     let text = function.name.items in
     let parts = and_parts (function_fits plan function) (list_all (function_fits plan) functions) all in
     let fits = and_parts (is_name text) (is_in_text plan function.at) parts.0 in
     let here = inside plan ok function.at fits.1 in
     let low = ok.low in
-    let stands : names ≡ front ++ ((text ++ 0 ∷ []) ++ (names_of_functions functions ++ tail)) =
-    is ∙ ap (λ (l : List ℕ). front ++ l) (append_assoc (text ++ 0 ∷ []) (names_of_functions functions) tail) in
-    let below = front-short names front text (names_of_functions functions ++ tail) stands in
-    let name_is : name_in names name ≡ text = ap (name_in names) place ∙ name-read names front text (names_of_functions functions ++ tail) stands (name-full text fits.0) in
-    let next_place : name + length text + 1 ≡ length (front ++ (text ++ 0 ∷ [])) = ap (λ (n : ℕ). n + length text + 1) place ∙ sym (longer-front front text) in
+    let stands : names ≡ prefix ++ ((text ++ 0 ∷ []) ++ (names_of_functions functions ++ tail)) =
+    is ∙ ap (λ (l : List ℕ). prefix ++ l) (append_assoc (text ++ 0 ∷ []) (names_of_functions functions) tail) in
+    let below = prefix-short names prefix text (names_of_functions functions ++ tail) stands in
+    let name_is : name_in names name ≡ text = ap (name_in names) place ∙ name-read names prefix text (names_of_functions functions ++ tail) stands (name-full text fits.0) in
+    let next_place : name + length text + 1 ≡ length (prefix ++ (text ++ 0 ∷ [])) = ap (λ (n : ℕ). n + length text + 1) place ∙ sym (longer-prefix prefix text) in
     symbols-more names name 0x12 1 function.at 0 (function_symbols (name + length text + 1) functions ++ rest) (function_symbol function) (map function_symbol functions ++ more)
     (symbol-read names name 0x12 1 function.at 0 (function_symbols (name + length text + 1) functions ++ rest) text (omega arith) (omega arith) (omega arith) name_is)
-    (functions-read plan ok names tail rest more short others functions (front ++ (text ++ 0 ∷ [])) (name + length text + 1) next_place
-    (name-next names front text (names_of_functions functions ++ tail) stands) parts.1)
+    (functions-read plan ok names tail rest more short others functions (prefix ++ (text ++ 0 ∷ [])) (name + length text + 1) next_place
+    (name-next names prefix text (names_of_functions functions ++ tail) stands) parts.1)
     f reads
 
 -- the keys are read
-pub keys-read : (names : List ℕ) → length names < 256 ^ 4 → (keys : List PlanKey) (front : List ℕ) (name at : ℕ) → name ≡ length front → names ≡ front ++ names_of_keys keys
+pub keys-read : (names : List ℕ) → length names < 256 ^ 4 → (keys : List PlanKey) (prefix : List ℕ) (name at : ℕ) → name ≡ length prefix → names ≡ prefix ++ names_of_keys keys
     → list_all key_fits keys ≡ true → at + 16 * length keys ≤ 256 ^ 8 → (f : ℕ → SymbolRecord) → AreSymbols names (key_symbols name at keys) f
     → map f (range_with_len 0 (length (key_symbols name at keys) / 24)) ≡ key_symbols_from at keys
-keys-read names short [] front name at place is all low f reads = refl
-keys-read names short (key ∷ keys) front name at place is all low f reads =
+keys-read names short [] prefix name at place is all low f reads = refl
+keys-read names short (key ∷ keys) prefix name at place is all low f reads =
     let text = key.name.items in
     let parts = and_parts (key_fits key) (list_all key_fits keys) all in
     let fits = and_parts (is_name text) (start_fits key.start) parts.0 in
-    let below = front-short names front text (names_of_keys keys) is in
-    let name_is : name_in names name ≡ text = ap (name_in names) place ∙ name-read names front text (names_of_keys keys) is (name-full text fits.0) in
-    let next_place : name + length text + 1 ≡ length (front ++ (text ++ 0 ∷ [])) = ap (λ (n : ℕ). n + length text + 1) place ∙ sym (longer-front front text) in
+    let below = prefix-short names prefix text (names_of_keys keys) is in
+    let name_is : name_in names name ≡ text = ap (name_in names) place ∙ name-read names prefix text (names_of_keys keys) is (name-full text fits.0) in
+    let next_place : name + length text + 1 ≡ length (prefix ++ (text ++ 0 ∷ [])) = ap (λ (n : ℕ). n + length text + 1) place ∙ sym (longer-prefix prefix text) in
     symbols-more names name 0x11 5 at 16 (key_symbols (name + length text + 1) (at + 16) keys) (record { name = text; info = 0x11; shndx = 5; value = at }) (key_symbols_from (at + 16) keys)
     (symbol-read names name 0x11 5 at 16 (key_symbols (name + length text + 1) (at + 16) keys) text (omega arith) (omega arith) (omega arith) name_is)
-    (keys-read names short keys (front ++ (text ++ 0 ∷ [])) (name + length text + 1) (at + 16) next_place
-    (name-next names front text (names_of_keys keys) is) parts.1 (omega arith))
+    (keys-read names short keys (prefix ++ (text ++ 0 ∷ [])) (name + length text + 1) (at + 16) next_place
+    (name-next names prefix text (names_of_keys keys) is) parts.1 (omega arith))
     f reads
 
 -- a symbol in front, whose name stands in the table
@@ -99,32 +99,32 @@ have-more names name info shndx value size rest n fits has others (suc j) below 
 
 -- the name of each function stands in the table
 pub functions-have : (names tail rest : List ℕ) (n : ℕ) → length names < 256 ^ 4 → ((j : ℕ) → j < n → HasName names (field 4 (24 * j) rest))
-    → (functions : List PlanFunction) (front : List ℕ) (name : ℕ) → name ≡ length front → names ≡ front ++ (names_of_functions functions ++ tail)
+    → (functions : List PlanFunction) (prefix : List ℕ) (name : ℕ) → name ≡ length prefix → names ≡ prefix ++ (names_of_functions functions ++ tail)
     → (k : ℕ) → k < length functions + n → HasName names (field 4 (24 * k) (function_symbols name functions ++ rest))
-functions-have names tail rest n short others [] front name place is k below = others k (omega arith)
-functions-have names tail rest n short others (function ∷ functions) front name place is k below =
+functions-have names tail rest n short others [] prefix name place is k below = others k (omega arith)
+functions-have names tail rest n short others (function ∷ functions) prefix name place is k below =
     let text = function.name.items in
-    let stands : names ≡ front ++ ((text ++ 0 ∷ []) ++ (names_of_functions functions ++ tail)) =
-    is ∙ ap (λ (l : List ℕ). front ++ l) (append_assoc (text ++ 0 ∷ []) (names_of_functions functions) tail) in
-    let inside_it = front-short names front text (names_of_functions functions ++ tail) stands in
-    let next_place : name + length text + 1 ≡ length (front ++ (text ++ 0 ∷ [])) = ap (λ (n : ℕ). n + length text + 1) place ∙ sym (longer-front front text) in
+    let stands : names ≡ prefix ++ ((text ++ 0 ∷ []) ++ (names_of_functions functions ++ tail)) =
+    is ∙ ap (λ (l : List ℕ). prefix ++ l) (append_assoc (text ++ 0 ∷ []) (names_of_functions functions) tail) in
+    let inside_it = prefix-short names prefix text (names_of_functions functions ++ tail) stands in
+    let next_place : name + length text + 1 ≡ length (prefix ++ (text ++ 0 ∷ [])) = ap (λ (n : ℕ). n + length text + 1) place ∙ sym (longer-prefix prefix text) in
     have-more names name 0x12 1 function.at 0 (function_symbols (name + length text + 1) functions ++ rest) (length functions + n) (omega arith)
-    (subst (HasName names) (sym place) (name-there names front text (names_of_functions functions ++ tail) stands))
-    (functions-have names tail rest n short others functions (front ++ (text ++ 0 ∷ [])) (name + length text + 1) next_place
-    (name-next names front text (names_of_functions functions ++ tail) stands))
+    (subst (HasName names) (sym place) (name-there names prefix text (names_of_functions functions ++ tail) stands))
+    (functions-have names tail rest n short others functions (prefix ++ (text ++ 0 ∷ [])) (name + length text + 1) next_place
+    (name-next names prefix text (names_of_functions functions ++ tail) stands))
     k (omega arith)
 
 -- the name of each key does
-pub keys-have : (names : List ℕ) → length names < 256 ^ 4 → (keys : List PlanKey) (front : List ℕ) (name at : ℕ) → name ≡ length front → names ≡ front ++ names_of_keys keys
+pub keys-have : (names : List ℕ) → length names < 256 ^ 4 → (keys : List PlanKey) (prefix : List ℕ) (name at : ℕ) → name ≡ length prefix → names ≡ prefix ++ names_of_keys keys
     → (k : ℕ) → k < length keys → HasName names (field 4 (24 * k) (key_symbols name at keys))
-keys-have names short [] front name at place is k below = absurd (omega arith)
-keys-have names short (key ∷ keys) front name at place is k below =
+keys-have names short [] prefix name at place is k below = absurd (omega arith)
+keys-have names short (key ∷ keys) prefix name at place is k below =
     let text = key.name.items in
-    let inside_it = front-short names front text (names_of_keys keys) is in
-    let next_place : name + length text + 1 ≡ length (front ++ (text ++ 0 ∷ [])) = ap (λ (n : ℕ). n + length text + 1) place ∙ sym (longer-front front text) in
+    let inside_it = prefix-short names prefix text (names_of_keys keys) is in
+    let next_place : name + length text + 1 ≡ length (prefix ++ (text ++ 0 ∷ [])) = ap (λ (n : ℕ). n + length text + 1) place ∙ sym (longer-prefix prefix text) in
     have-more names name 0x11 5 at 16 (key_symbols (name + length text + 1) (at + 16) keys) (length keys) (omega arith)
-    (subst (HasName names) (sym place) (name-there names front text (names_of_keys keys) is))
-    (keys-have names short keys (front ++ (text ++ 0 ∷ [])) (name + length text + 1) (at + 16) next_place (name-next names front text (names_of_keys keys) is))
+    (subst (HasName names) (sym place) (name-there names prefix text (names_of_keys keys) is))
+    (keys-have names short keys (prefix ++ (text ++ 0 ∷ [])) (name + length text + 1) (at + 16) next_place (name-next names prefix text (names_of_keys keys) is))
     k (omega arith)
 
 -- the section of symbols is found among the sections of a plan
@@ -136,13 +136,13 @@ symtab-found plan = refl
 pub symtab-is : (plan : Plan) (file : List ℕ) → sections_of file ≡ no_section ∷ sections_from plan 1 parts → symtab_of file ≡ Some (section_of_part plan 6 Symbols)
 symtab-is plan file read = ap (find (λ (s : SectionRecord). nat_eq s.kind 2)) read ∙ symtab-found plan
 
--- the first function's name stands behind a zero, and the first key's behind the functions'
+-- the first function's name stands after a zero, and the first key's after the functions'
 module _ (plan : Plan) (ok : Bounds plan) where
   -- the places of names fit their fields
   names-short : length (names_of plan) < 256 ^ 4
   names-short = let n = length-names plan ok in omega arith
 
-  -- the keys' names stand behind the functions'
+  -- the keys' names stand after the functions'
   names-keys : names_of plan ≡ (0 ∷ names_of_functions plan.functions.items) ++ names_of_keys plan.keys.items
   names-keys = refl
 

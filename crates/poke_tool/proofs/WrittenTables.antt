@@ -17,7 +17,7 @@ use Rattle.elf_build.specs.File.{entry_bytes, key_at, flag, table_at, table_byte
 use Rattle.poke_tool.specs.Module.{table_of, table_in}
 use Rattle.poke_tool.specs.Written.{jump_of, call_of, trace_of, jumps_of, calls_of, traces_of, no_section, section_of_part, sections_from}
 use Rattle.site_tables.specs.Tables.{entries_in}
-use Rattle.poke_tool.proofs.WrittenFields.{field-drop, field-front}
+use Rattle.poke_tool.proofs.WrittenFields.{field-drop, field-prefix}
 use Rattle.poke_tool.proofs.WrittenBounds.{Bounds}
 use Rattle.poke_tool.proofs.WrittenLeads.{near-round, flag-low, flag-first, flag-second, flag-below, on-round, first-of_two, second-of_two, first-of_three, second-of_three, third-of_three, field-here}
 use Rattle.poke_tool.proofs.WrittenRows.{IsEntry, table-reads}
@@ -170,7 +170,7 @@ trace-entry plan ok k (Trace at) few fits field_at place =
     let here = inside plan ok at fits in
     let low = ok.low in
     let below : at < 256 ^ 8 = omega arith in
-    some refl (λ rest. field-front 8 at rest below)
+    some refl (λ rest. field-prefix 8 at rest below)
 
 -- the section of each table is the one of its name
 module _ (plan : Plan) where

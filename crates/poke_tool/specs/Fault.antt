@@ -112,6 +112,6 @@ reason_of Read = codes "read failed"
 reason_of Write = codes "write failed"
 reason_of Memory = codes "no memory"
 
--- the line that is complained
+-- the line that is reported
 abbrev pub complaint_of : Fault → List ℕ
 complaint_of fault = codes "textpoke: " ++ reason_of fault ++ 10 ∷ []

@@ -24,15 +24,15 @@ abbrev pub poke_text : Change → List ℕ
 poke_text change = flat_map item_line (items (change ∷ []))
 
 -- the items that are still to be printed: where a synchronisation is waited for, its line was printed
-abbrev pub behind_wait : Due → List Item → List Item
-behind_wait Idle items = items
-behind_wait (Write at byte) items = items
-behind_wait Request items = items
-behind_wait Wait items = drop 1 items
-behind_wait Return items = items
+abbrev pub after_wait : Due → List Item → List Item
+after_wait Idle items = items
+after_wait (Write at byte) items = items
+after_wait Request items = items
+after_wait Wait items = drop 1 items
+after_wait Return items = items
 
 abbrev pub to_print : Option Walk → List Item
-to_print update = behind_wait (due_of update) (to_come update)
+to_print update = after_wait (due_of update) (to_come update)
 
 -- a file that holds a text, where the files are told
 abbrev pub Holds : Outside → List ℕ → List ℕ → Type 0

@@ -18,7 +18,7 @@ use Rattle.poke_tool.specs.declared.plan_line.PlanRefused.TheVariants.{TooLong, 
 abbrev pub is_line_feed : ℕ → Bool
 is_line_feed byte = byte == 10
 
--- a line, where nothing stands behind it
+-- a line, where nothing stands after it
 abbrev pub if_last : List ℕ → List ℕ → Option (List ℕ)
 if_last line [] = Some line
 if_last line (byte ∷ more) = None

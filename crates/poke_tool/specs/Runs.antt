@@ -2,7 +2,7 @@
 use Rattle.std.specs.Prelude.{◌≡◌, ◌≤◌, ◌⊎◌, ℕ, List, [], length, take, Option, Some, None, Result, Ok, Err, OnOk, IfErr, ⊤}
 use Rattle.poke_base.specs.declared.host.WriteFail.{WriteFail}
 use Rattle.poke_base.specs.Host.{Outside, Rose, Tells, with_more, with_file, Complains}
-use Rattle.poke_base.specs.Text.{IsFront}
+use Rattle.poke_base.specs.Text.{IsPrefix}
 use Rattle.insn_forms.specs.declared.forms.Change.{Change}
 use Rattle.elf_build.specs.declared.plan.Plan.{Plan}
 use Rattle.elf_build.specs.File.{file_of}
@@ -20,10 +20,10 @@ use Rattle.poke_tool.specs.Check.{SaysCheck}
 abbrev pub PrintsText : Outside → Outside → List ℕ → Type 0
 PrintsText old new text = Tells (with_more old.printed text) new.printed
 
--- a front of a text was printed
-pub record PrintsFront (old new : Outside) (text : List ℕ) : Type 0 where
+-- a prefix of a text was printed
+pub record PrintsPrefix (old new : Outside) (text : List ℕ) : Type 0 where
   pub part : List ℕ
-  pub front : IsFront part text
+  pub prefix : IsPrefix part text
   pub printed : PrintsText old new part
 
 -- nothing was printed, and no file was made or changed
@@ -46,7 +46,7 @@ pub record Keeps (row : Row) (old new : Outside) (result : Result (Unit {0}) Fau
   pub complain_faults : new.complain_faults ≡ old.complain_faults
   pub read_faults : old.read_faults ≤ new.read_faults
   pub write_faults : old.write_faults ≤ new.write_faults
-  -- the first so many of its file words were asked for, from left to right; all of them where it is done
+  -- the first n of its file words were asked for, from left to right; all of them where it is done
   pub names : ℕ
   pub asked : Tells (with_more old.asked (take names (file_words row))) new.asked
   pub all_asked : OnOk result (names ≡ length (file_words row))
@@ -91,7 +91,7 @@ Says (command.Make n file) outside said = MakeSays said
 abbrev pub FailsSaying : Row → Outside → Outside → Fault → Type 0
 FailsSaying row old new (Module why) = Says row new (Err (Module why))
 FailsSaying row old new (PlanFault why) = Says row new (Err (PlanFault why))
-FailsSaying row old new Write = (text : List ℕ) × Says row new (Ok text) × PrintsFront old new text
+FailsSaying row old new Write = (text : List ℕ) × Says row new (Ok text) × PrintsPrefix old new text
 FailsSaying row old new _ = ⊤
 
 -- what a command answers that prints what its files say
@@ -106,7 +106,7 @@ pub record ShowsFile (row : Row) (old new : Outside) (result : Result (Unit {0})
   pub asks : Tells (with_more old.asked (file_words row)) new.asked
   pub prints : PrintsSaid row old new result
 
--- the bytes are those of the module with so many blocks
+-- the bytes are those of the module with n blocks
 pub record IsModuleOf (n : ℕ) (bytes : List ℕ) : Type 0 where
   pub plan : Plan
   pub generated : IsGenerated n plan
@@ -118,18 +118,18 @@ pub record HoldsModule (n : ℕ) (name : List ℕ) (old new : Outside) : Type 0 
   pub is_module : IsModuleOf n bytes
   pub files : Tells (with_file old.files name bytes) new.files
 
--- a write failed: the file is as before, or was made and holds a front of the module
-pub record HoldsFront (n : ℕ) (name : List ℕ) (old new : Outside) : Type 0 where
+-- a write failed: the file is as before, or was made and holds a prefix of the module
+pub record HoldsPrefix (n : ℕ) (name : List ℕ) (old new : Outside) : Type 0 where
   pub bytes : List ℕ
   pub is_module : IsModuleOf n bytes
   pub part : List ℕ
-  pub front : IsFront part bytes
+  pub prefix : IsPrefix part bytes
   pub files : Tells old.files new.files ⊎ Tells (with_file old.files name part) new.files
 
 -- what `make` leaves of its file; where there was no memory all is as before, and it fails for no other reason
 abbrev pub MakesModule : ℕ → List ℕ → Outside → Outside → Result (Unit {0}) Fault → Type 0
 MakesModule n name old new (Ok done) = HoldsModule n name old new
-MakesModule n name old new (Err Write) = HoldsFront n name old new
+MakesModule n name old new (Err Write) = HoldsPrefix n name old new
 MakesModule n name old new (Err Memory) = ⊤
 MakesModule n name old new (Err _) = ⊥
 
@@ -147,7 +147,7 @@ Does (command.Show file) old new result = ShowsFile (command.Show file) old new 
 Does (command.Check file) old new result = ShowsFile (command.Check file) old new result
 Does (command.Make n file) old new result = DoesMake n file old new result
 
--- how the program ends: a fault is complained, and gives the status whether the complaint went out or not
+-- how the program ends: a fault is reported, and gives the status whether the complaint went out or not
 abbrev pub Ends : Outside → Outside → Result (Unit {0}) Fault → ℕ → Type 0
 Ends middle new (Ok done) status = (status ≡ 0) × (new ≡ middle)
 Ends middle new (Err fault) status =

@@ -18,7 +18,7 @@ use std::alloc::Global;
 ///
 /// # Errors
 /// Why the file wasn't read or was refused, in which case nothing was printed; a failed write, after
-/// which a front of the text was printed; want of memory, which comes before anything is printed.
+/// which a prefix of the text was printed; out of memory, which comes before anything is printed.
 pub fn check<H: Host>(alloc: Global, name: &str, host: &mut H) -> Result<(), Fault>
     ensures { ShowsFile (CheckRow name.now) (H.outside host.old) (H.outside host.new) result }
 {

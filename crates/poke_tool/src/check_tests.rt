@@ -142,7 +142,7 @@ fn a_missing_file_is_not_read(rt: HostRuntime) -> Result<(), Fail> {
 }
 
 #[test]
-fn failing_calls_leave_a_front(rt: HostRuntime) -> Result<(), Fail> {
+fn failing_calls_leave_a_prefix(rt: HostRuntime) -> Result<(), Fail> {
     // The first call reads the file, and four prints follow.
     let rows: [(u64, u8, &[u8]); 6] = [
         (1, 5, b""),

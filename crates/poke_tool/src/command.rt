@@ -13,7 +13,7 @@ pub enum Command<'a> {
     Show { module: &'a str },
     /// Prints the text and the sites of a module that is accepted.
     Check { module: &'a str },
-    /// Writes a module with so many blocks, 10 to 1,000.
+    /// Writes a module with n blocks, 10 to 1,000.
     Make { blocks: u32, module: &'a str },
 }
 

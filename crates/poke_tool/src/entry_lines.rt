@@ -19,7 +19,7 @@ pub fn entry_line(kind: TableKind, section: &Section, i: u32) -> Line
     }
 }
 
-/// `jump CODE TARGET KEY unlikely` or `likely`, with `bit1` behind it where that bit is set.
+/// `jump CODE TARGET KEY unlikely` or `likely`, with `bit1` after it where that bit is set.
 #[tactic(auto, using(poke_base::proofs::Numbers::line_room))]
 fn jump_line(entry: &JumpEntry) -> Line
     ensures { result.items ≡ jump_line entry.now }
@@ -37,7 +37,7 @@ fn jump_line(entry: &JumpEntry) -> Line
     line
 }
 
-/// `call ADDR KEY` or `tail ADDR KEY`, with `init` behind it where that bit is set.
+/// `call ADDR KEY` or `tail ADDR KEY`, with `init` after it where that bit is set.
 #[tactic(auto, using(poke_base::proofs::Numbers::line_room))]
 fn call_line(site: &CallSite) -> Line
     ensures { result.items ≡ call_line site.now }

@@ -44,7 +44,7 @@ impl Fault {
         }
     }
 
-    /// The line that is complained.
+    /// The line that is reported.
     #[tactic(auto, using(poke_base::proofs::Numbers::line_room))]
     pub fn complaint(&self) -> Line
         ensures { result.items ≡ complaint_of self.now }

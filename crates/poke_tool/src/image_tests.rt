@@ -13,7 +13,7 @@ const F: u64 = 0x40_1000;
 
 const K: u64 = 0x45_1000;
 
-/// ENDBR64 and a traced NOP behind it, a switch, a load, a call and two returns. The key of the switch has two
+/// ENDBR64 and a traced NOP after it, a switch, a load, a call and two returns. The key of the switch has two
 /// names, and two functions have one name.
 fn module(alloc: Global) -> Result<Vec<u8>, Fail> {
     let small = Small {
@@ -74,7 +74,7 @@ fn addresses_are_looked_up(rt: HostRuntime) -> Result<(), Fail> {
     for (at, instruction) in instructions {
         assert_eq!(rt; image.insn_at(at), instruction);
     }
-    // At the function, and behind its ENDBR64.
+    // At the function, and after its ENDBR64.
     let traced = [(F, Some(0)), (F + 4, Some(0)), (F + 9, None)];
     for (function, site) in traced {
         assert_eq!(rt; image.trace_site_of(function), site);

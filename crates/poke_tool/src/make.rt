@@ -7,11 +7,11 @@ use elf_build::{generated, write};
 use poke_base::{Host, NoMemory, WriteFail};
 use std::alloc::Global;
 
-/// Makes a file with the module of so many blocks, 10 to 1,000. The whole file is built in memory
+/// Makes a file with the module of n blocks, 10 to 1,000. The whole file is built in memory
 /// first, made then, and written in one piece; nothing is printed.
 ///
 /// # Errors
-/// A failed write, after which the file is as before, or holds a front of the module; want of
+/// A failed write, after which the file is as before, or holds a prefix of the module; want of
 /// memory, which comes before the file is made.
 pub fn make<H: Host>(alloc: Global, blocks: u32, name: &str, host: &mut H) -> Result<(), Fault>
     requires few { 10 ≤ blocks }
@@ -32,7 +32,7 @@ pub fn make<H: Host>(alloc: Global, blocks: u32, name: &str, host: &mut H) -> Re
     }
 }
 
-/// The file of the module with so many blocks.
+/// The file of the module with n blocks.
 fn built(alloc: Global, blocks: u32) -> Result<Vec<u8>, NoMemory>
     requires few { 10 ≤ blocks }
     requires many { blocks ≤ 1000 }

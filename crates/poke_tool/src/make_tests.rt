@@ -94,13 +94,13 @@ fn a_thousand_blocks_are_made(rt: HostRuntime) -> Result<(), Fail> {
     let mut host = MemoryHost::new(alloc);
     let status = textpoke(alloc, &words(alloc, &["make", "1000", "m"])?, &mut host);
     assert_eq!(rt; status, 0);
-    // Nine section headers of 64 bytes stand at 24,112, behind 84 bytes of section names at 24,016.
+    // Nine section headers of 64 bytes stand at 24,112, after 84 bytes of section names at 24,016.
     assert_eq!(rt; host.file("m").map(|bytes| bytes.len()), Some(24_688));
     Ok(())
 }
 
 #[test]
-fn failing_calls_leave_a_front(rt: HostRuntime) -> Result<(), Fail> {
+fn failing_calls_leave_a_prefix(rt: HostRuntime) -> Result<(), Fail> {
     let alloc = rt.alloc();
     let make = words(alloc, &["make", "10", "m"])?;
     let whole = ten_blocks(alloc)?;

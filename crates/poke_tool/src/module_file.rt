@@ -11,7 +11,7 @@ use std::alloc::Global;
 /// The module that a file's bytes are.
 ///
 /// # Errors
-/// The first thing that is wrong with the file or the module; want of memory.
+/// The first thing that is wrong with the file or the module; out of memory.
 pub fn accept_file(alloc: Global, bytes: &[u8]) -> Result<Image, Fault>
     requires { length bytes.now ≤ 67108864 }
     ensures accepted { IfOk result (Accepts bytes.now) }

@@ -92,9 +92,9 @@ pub fn file(alloc: Global, plan: &Plan) -> Result<Vec<u8>, Fail> {
 /// Where a byte of a written file stands.
 #[derive(Clone, Copy)]
 pub enum Place {
-    /// So many bytes behind the beginning of the file.
+    /// N bytes after the beginning of the file.
     File(usize),
-    /// So many bytes behind the beginning of the header of the section with this index.
+    /// N bytes after the beginning of the header of the section with this index.
     Header(usize, usize),
 }
 
@@ -124,7 +124,7 @@ fn numbered(number: u32) -> Name {
     name(&line)
 }
 
-/// 300 functions of a NOP that is traced and a return, behind the function that they call when they
+/// 300 functions of a NOP that is traced and a return, after the function that they call when they
 /// are; a halt at the end.
 pub fn traced(alloc: Global) -> Result<Plan, Fail> {
     let mut plan = plan(

@@ -1,4 +1,4 @@
-//! Modules that could be refused for more than one reason: the first in the order is complained.
+//! Modules that could be refused for more than one reason: the first in the order is reported.
 
 use crate::modules::{Place, RETURN, Small, call, change, file, full, jump, plan, tail};
 use crate::refusal_tests::{refuses, refuses_changed, refuses_file};

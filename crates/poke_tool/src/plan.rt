@@ -24,7 +24,7 @@ const PLAN_LIMIT: u64 = 256;
 ///
 /// # Errors
 /// Why the file wasn't read or was refused, in which case nothing was printed; a failed write, after
-/// which a front of the text was printed; want of memory, which comes before anything is printed.
+/// which a prefix of the text was printed; out of memory, which comes before anything is printed.
 pub fn plan<H: Host>(alloc: Global, file: &str, host: &mut H) -> Result<(), Fault>
     ensures { ShowsFile (PlanRow file.now) (H.outside host.old) (H.outside host.new) result }
 {

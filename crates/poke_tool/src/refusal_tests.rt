@@ -143,7 +143,7 @@ fn sites_are_counted(rt: HostRuntime) -> Result<(), Fail> {
     assert_eq!(rt; lines, 1_026);
     assert!(rt; printed.ends_with(b"\nsite 4023fc trace 0f1f440000\naccepted\n"));
 
-    // Behind the table the first symbol stands, 24 zeros: an entry of the address 0.
+    // After the table the first symbol stands, 24 zeros: an entry of the address 0.
     change(&mut bytes, &[(Place::Header(4, 32), 8)]);
     refuses_file(&rt, &bytes, b"SiteCount 401")
 }
@@ -170,10 +170,10 @@ fn sites_stand_in_the_text(rt: HostRuntime) -> Result<(), Fail> {
         (Place::File(0x52), 0xfd),
     ];
     refuses_changed(&rt, &jumping, &before, b"SiteOutside 400fff")?;
-    let behind = [(Place::File(0x50), 3)];
-    refuses_changed(&rt, &jumping, &behind, b"SiteOutside 401003")?;
+    let after = [(Place::File(0x50), 3)];
+    refuses_changed(&rt, &jumping, &after, b"SiteOutside 401003")?;
 
-    // Five bytes behind the entry's address is the address 2.
+    // Five bytes after the entry's address is the address 2.
     let tracing = Small {
         text,
         sites: &[PlanSite::Trace { at: F }],

@@ -9,7 +9,7 @@ use std::test::Fail;
 /// Where the text stands.
 const F: u64 = 0x40_1000;
 
-/// The bytes of a NOP, of a load of 1 and of a call to what follows it, each with a return behind it.
+/// The bytes of a NOP, of a load of 1 and of a call to what follows it, each with a return after it.
 const NOP: &[u8] = b"\x0f\x1fD\0\0\xc3";
 
 const LOAD: &[u8] = b"\xb8\x01\0\0\0\xc3";

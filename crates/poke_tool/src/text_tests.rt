@@ -77,7 +77,7 @@ fn plain_jumps_lead_to_instructions(rt: HostRuntime) -> Result<(), Fail> {
     let why = b"BadTarget 401005 401001";
     refuses_one(&rt, text, site, KeyStart::Count(0), why)?;
     let rows: [(&[u8], &[u8]); 5] = [
-        // To the text's end, and far behind it.
+        // To the text's end, and far after it.
         (b"\xeb\0", b"BadTarget 401000 401002"),
         (b"\xe8\xff\xff\xff\x7f\xc3", b"BadTarget 401000 80401004"),
         // Into a load.
@@ -100,9 +100,9 @@ fn plain_jumps_lead_to_instructions(rt: HostRuntime) -> Result<(), Fail> {
 #[test]
 fn sites_and_keys_lead_to_instructions(rt: HostRuntime) -> Result<(), Fail> {
     let count = KeyStart::Count(0);
-    let load_behind: &[u8] = b"f\x90\xb8\x01\0\0\0\xc3";
+    let load_after: &[u8] = b"f\x90\xb8\x01\0\0\0\xc3";
     let why = b"BadTarget 401000 401003";
-    refuses_one(&rt, load_behind, jump(F, F + 3, 0), count, why)?;
+    refuses_one(&rt, load_after, jump(F, F + 3, 0), count, why)?;
     // A foreign jump.
     let load: &[u8] = b"\xb8\x01\0\0\0\xc3";
     let why = b"BadTarget 401000 401001";

@@ -18,8 +18,8 @@ use std::alloc::Global;
 /// words don't have the program's name.
 ///
 /// 0: done. 1: the words are no command. 2: the module was refused. 3: the plan file was refused.
-/// 5: a file wasn't read. 6: a write failed. 7: want of memory, which comes before anything is
-/// printed or made. At every status but 0 the reason is complained in one line; a complaint that
+/// 5: a file wasn't read. 6: a write failed. 7: out of memory, which comes before anything is
+/// printed or made. At every status but 0 the reason is reported in one line; a complaint that
 /// fails leaves the status as it is.
 pub fn textpoke<H: Host>(alloc: Global, words: &[String], host: &mut H) -> u8
     ensures runs { Runs (words_of words.now) (H.outside host.old) (H.outside host.new) result }

@@ -24,7 +24,7 @@ abbrev pub content_of : Option SectionRecord → List ℕ
 content_of None = []
 content_of (Some s) = s.content
 
--- the entries of a table, each so many bytes long, by what the one at an offset says
+-- the entries of a table, each n bytes long, by what the one at an offset says
 abbrev pub entries_in : {A : Type 0} → (ℕ → List ℕ → ℕ → A) → ℕ → Option SectionRecord → List A
 entries_in read size None = []
 entries_in read size (Some s) =

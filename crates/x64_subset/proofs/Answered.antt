@@ -56,12 +56,12 @@ by_answer P whole short unknown (Err Unknown) = unknown
 -- the whole of a spelling that bytes begin
 whole_code : (at : ℕ) (bytes : List ℕ) → (c : IsCut at bytes) → bytes ++ drop (length bytes) c.code ≡ c.code
 whole_code at bytes c =
-    ap (λ (l : List ℕ). l ++ drop (length bytes) c.code) (sym c.front) ∙ take-append-drop (length bytes) c.code
+    ap (λ (l : List ℕ). l ++ drop (length bytes) c.code) (sym c.prefix) ∙ take-append-drop (length bytes) c.code
 
 -- bytes that are cut are too short
 pub cut_read : (at : ℕ) (bytes : List ℕ) → IsCut at bytes → read at bytes ≡ Err Short
 cut_read at bytes c =
-    let fit : AreBytes bytes = subst AreBytes c.front (bytes_take (length bytes) c.code (spells-bytes c.insn at c.code c.spelt)) in
+    let fit : AreBytes bytes = subst AreBytes c.prefix (bytes_take (length bytes) c.code (spells-bytes c.insn at c.code c.spelt)) in
     let rest : List ℕ = drop (length bytes) c.code in
     let all : read at c.code ≡ Ok (c.insn, length c.code) = ap (read at) (sym (append-nil c.code)) ∙ reads_spelt c.insn at c.code c.spelt [] in
     let joined : read at (bytes ++ rest) ≡ Ok (c.insn, length c.code) = ap (read at) (whole_code at bytes c) ∙ all in

@@ -4,7 +4,7 @@ use Rattle.std.specs.Int.{Width, w8, w32, to_le_bytes, from_le_bytes}
 use Rattle.std.proofs.lemmas.Bool.Decides.{Decides-eqb, nat_tests}
 use Rattle.std.proofs.lemmas.Option.{same_Some, none-some}
 use Rattle.insn_forms.specs.Displacement.{leads, distance, displacement, sign_extended}
-use Rattle.insn_forms.specs.Spelling.{behind}
+use Rattle.insn_forms.specs.Spelling.{after}
 
 -- a value that is kept by a test
 kept : (test : Bool) (rel other : List ℕ) → cond test (Some rel) None ≡ Some other → (test ≡ true) × (other ≡ rel)
@@ -61,6 +61,6 @@ displacement32 from a b c d below p q r s =
     let facts = extended32 (from_le_bytes w32 (a ∷ b ∷ c ∷ d ∷ [])) (omega arith) in
     displaced w32 from (a ∷ b ∷ c ∷ d ∷ []) below facts.0 (four_bytes _ a b c d p q r s facts.1)
 
--- an address behind some bytes
-pub behind-below : (at n : ℕ) → behind at n < 2 ^ 64
-behind-below at n = omega arith
+-- an address after some bytes
+pub after-below : (at n : ℕ) → after at n < 2 ^ 64
+after-below at n = omega arith

@@ -19,9 +19,9 @@ AreBytes [] = Unit {0}
 AreBytes (b ∷ bytes) = (b < 256) × AreBytes bytes
 
 -- the reading of what follows these bytes is exact
-pub record IsExact (at : ℕ) (front : List ℕ) (k : Reading) : Type 0 where
-  pub stands : (insn : Insn) (len : ℕ) (bytes : List ℕ) → AreBytes bytes → k bytes ≡ Ok (insn, len) → Stands insn len at (front ++ bytes)
-  pub cut : (bytes : List ℕ) → AreBytes bytes → k bytes ≡ Err Short → IsCut at (front ++ bytes)
+pub record IsExact (at : ℕ) (prefix : List ℕ) (k : Reading) : Type 0 where
+  pub stands : (insn : Insn) (len : ℕ) (bytes : List ℕ) → AreBytes bytes → k bytes ≡ Ok (insn, len) → Stands insn len at (prefix ++ bytes)
+  pub cut : (bytes : List ℕ) → AreBytes bytes → k bytes ≡ Err Short → IsCut at (prefix ++ bytes)
   pub lasts : (bytes rest : List ℕ) → AreBytes bytes → (k bytes ≡ Err Short) ⊎ (k (bytes ++ rest) ≡ k bytes)
 
 -- a spelling stands where bytes begin with it
@@ -32,80 +32,80 @@ stands_spelt insn at code rest is = record {
 }
 
 -- the instruction ends here
-pub exact_whole : (at : ℕ) (front : List ℕ) (insn : Insn) (len : ℕ) → length front ≡ len → Spells insn at front → IsExact at front (whole insn len)
-exact_whole at front insn len same is = record {
+pub exact_whole : (at : ℕ) (prefix : List ℕ) (insn : Insn) (len : ℕ) → length prefix ≡ len → Spells insn at prefix → IsExact at prefix (whole insn len)
+exact_whole at prefix insn len same is = record {
   stands = λ other n bytes fit e.
-      let place : Stands insn (length front) at (front ++ bytes) = stands_spelt insn at front bytes is in
+      let place : Stands insn (length prefix) at (prefix ++ bytes) = stands_spelt insn at prefix bytes is in
       let both : (insn, len) ≡ (other, n) = cc in
       let first : insn ≡ other = ap (λ (p : Insn × ℕ). p.0) both in
-      let second : length front ≡ n = same ∙ ap (λ (p : Insn × ℕ). p.1) both in
-      subst (λ (i : Insn). Stands i n at (front ++ bytes)) first
-      (subst (λ (l : ℕ). Stands insn l at (front ++ bytes)) second place);
+      let second : length prefix ≡ n = same ∙ ap (λ (p : Insn × ℕ). p.1) both in
+      subst (λ (i : Insn). Stands i n at (prefix ++ bytes)) first
+      (subst (λ (l : ℕ). Stands insn l at (prefix ++ bytes)) second place);
   cut = λ bytes fit e. absurd (cc);
   lasts = λ bytes rest fit. inr refl;
 }
 
 -- nothing begins so
-pub exact_unknown : (at : ℕ) (front : List ℕ) → IsExact at front unknown
-exact_unknown at front = record {
+pub exact_unknown : (at : ℕ) (prefix : List ℕ) → IsExact at prefix unknown
+exact_unknown at prefix = record {
   stands = λ insn len bytes fit e. absurd (cc);
   cut = λ bytes fit e. absurd (cc);
   lasts = λ bytes rest fit. inr refl;
 }
 
 -- one of two readings
-pub exact_if : {at : ℕ} {front : List ℕ} {k l : Reading} (test : Bool) → (test ≡ true → IsExact at front k) → IsExact at front l → IsExact at front (if test then k else l)
+pub exact_if : {at : ℕ} {prefix : List ℕ} {k l : Reading} (test : Bool) → (test ≡ true → IsExact at prefix k) → IsExact at prefix l → IsExact at prefix (if test then k else l)
 exact_if true p q = p refl
 exact_if false p q = q
 
 -- one of two readings, by the value of a number in front
-pub exact_on : {at : ℕ} {k l : Reading} (front : ℕ → List ℕ) (n c : ℕ) → IsExact at (front c) k → IsExact at (front n) l → IsExact at (front n) (if n == c then k else l)
-exact_on {at} {k} front n c p q =
-    exact_if (n == c) (λ is. subst (λ (m : ℕ). IsExact at (front m) k) (sym ((Decides-eqb n c).0 is)) p) q
+pub exact_on : {at : ℕ} {k l : Reading} (prefix : ℕ → List ℕ) (n c : ℕ) → IsExact at (prefix c) k → IsExact at (prefix n) l → IsExact at (prefix n) (if n == c then k else l)
+exact_on {at} {k} prefix n c p q =
+    exact_if (n == c) (λ is. subst (λ (m : ℕ). IsExact at (prefix m) k) (sym ((Decides-eqb n c).0 is)) p) q
 
 -- one of two readings, by the range of a byte in front
-pub exact_in : {at : ℕ} {l : Reading} (front : ℕ → List ℕ) (k : ℕ → Reading) (n base top : ℕ) → ((c : ℕ) → IsExact at (front (base + c)) (k c)) → IsExact at (front n) l → IsExact at (front n) (if nat_le base n && nat_lt n top then k (n - base) else l)
-exact_in {at} front k n base top p q =
+pub exact_in : {at : ℕ} {l : Reading} (prefix : ℕ → List ℕ) (k : ℕ → Reading) (n base top : ℕ) → ((c : ℕ) → IsExact at (prefix (base + c)) (k c)) → IsExact at (prefix n) l → IsExact at (prefix n) (if nat_le base n && nat_lt n top then k (n - base) else l)
+exact_in {at} prefix k n base top p q =
     exact_if _
     (λ is.
     let from : base ≤ n = leb-true base n (and_parts (nat_le base n) (nat_lt n top) is).0 in
     let same : base + (n - base) ≡ n = omega arith in
-    subst (λ (m : ℕ). IsExact at (front m) (k (n - base))) same (p (n - base))) q
+    subst (λ (m : ℕ). IsExact at (prefix m) (k (n - base))) same (p (n - base))) q
 
 -- bytes that some spelling continues are cut
-pub cut_by : (insn : Insn) (at : ℕ) (front : List ℕ) (b : ℕ) (rest : List ℕ) → Spells insn at (front ++ b ∷ rest) → IsCut at front
-cut_by insn at front b rest is = record {
+pub cut_by : (insn : Insn) (at : ℕ) (prefix : List ℕ) (b : ℕ) (rest : List ℕ) → Spells insn at (prefix ++ b ∷ rest) → IsCut at prefix
+cut_by insn at prefix b rest is = record {
   insn = insn;
-  code = front ++ b ∷ rest;
+  code = prefix ++ b ∷ rest;
   spelt = is;
-  front = take-append_seam front (b ∷ rest);
-  shorter = omega (arith, length-append front (b ∷ rest));
+  prefix = take-append_seam prefix (b ∷ rest);
+  shorter = omega (arith, length-append prefix (b ∷ rest));
 }
 
 -- one more byte in front
-more : (front : List ℕ) (b : ℕ) (bytes : List ℕ) → (front ++ b ∷ []) ++ bytes ≡ front ++ b ∷ bytes
-more front b bytes = append_assoc front (b ∷ []) bytes
+more : (prefix : List ℕ) (b : ℕ) (bytes : List ℕ) → (prefix ++ b ∷ []) ++ bytes ≡ prefix ++ b ∷ bytes
+more prefix b bytes = append_assoc prefix (b ∷ []) bytes
 
 -- one more byte decides
-pub exact_byte : (at : ℕ) (front : List ℕ) (next : ℕ → Reading) → IsCut at front → ((b : ℕ) → b < 256 → IsExact at (front ++ b ∷ []) (next b)) → IsExact at front (byte next)
-exact_byte at front next here each = record { stands = stands; cut = cut; lasts = lasts }
+pub exact_byte : (at : ℕ) (prefix : List ℕ) (next : ℕ → Reading) → IsCut at prefix → ((b : ℕ) → b < 256 → IsExact at (prefix ++ b ∷ []) (next b)) → IsExact at prefix (byte next)
+exact_byte at prefix next here each = record { stands = stands; cut = cut; lasts = lasts }
   where
-    stands : (insn : Insn) (len : ℕ) (bytes : List ℕ) → AreBytes bytes → byte next bytes ≡ Ok (insn, len) → Stands insn len at (front ++ bytes)
+    stands : (insn : Insn) (len : ℕ) (bytes : List ℕ) → AreBytes bytes → byte next bytes ≡ Ok (insn, len) → Stands insn len at (prefix ++ bytes)
     stands insn len [] fit e = absurd (cc)
     stands insn len (b ∷ bytes) (p, fit) e =
-        subst (λ (l : List ℕ). Stands insn len at l) (more front b bytes) ((each b p).stands insn len bytes fit e)
+        subst (λ (l : List ℕ). Stands insn len at l) (more prefix b bytes) ((each b p).stands insn len bytes fit e)
 
-    cut : (bytes : List ℕ) → AreBytes bytes → byte next bytes ≡ Err Short → IsCut at (front ++ bytes)
-    cut [] fit e = subst (λ (l : List ℕ). IsCut at l) (sym (append-nil front)) here
-    cut (b ∷ bytes) (p, fit) e = subst (λ (l : List ℕ). IsCut at l) (more front b bytes) ((each b p).cut bytes fit e)
+    cut : (bytes : List ℕ) → AreBytes bytes → byte next bytes ≡ Err Short → IsCut at (prefix ++ bytes)
+    cut [] fit e = subst (λ (l : List ℕ). IsCut at l) (sym (append-nil prefix)) here
+    cut (b ∷ bytes) (p, fit) e = subst (λ (l : List ℕ). IsCut at l) (more prefix b bytes) ((each b p).cut bytes fit e)
 
     lasts : (bytes rest : List ℕ) → AreBytes bytes → (byte next bytes ≡ Err Short) ⊎ (byte next (bytes ++ rest) ≡ byte next bytes)
     lasts [] rest fit = inl refl
     lasts (b ∷ bytes) rest (p, fit) = (each b p).lasts bytes rest fit
 
 -- readings that read the same
-exact_same : {at : ℕ} {front : List ℕ} (k l : Reading) → ((bytes : List ℕ) → k bytes ≡ l bytes) → IsExact at front k → IsExact at front l
-exact_same {at} {front} k l same exact = record {
+exact_same : {at : ℕ} {prefix : List ℕ} (k l : Reading) → ((bytes : List ℕ) → k bytes ≡ l bytes) → IsExact at prefix k → IsExact at prefix l
+exact_same {at} {prefix} k l same exact = record {
   stands = λ insn len bytes fit e. exact.stands insn len bytes fit (same bytes ∙ e);
   cut = λ bytes fit e. exact.cut bytes fit (same bytes ∙ e);
   lasts = λ bytes rest fit.
@@ -124,70 +124,70 @@ expected c code next (b ∷ bytes) = go (b == c)
     go false = refl
 
 -- these bytes have to follow
-pub exact_expect : (insn : Insn) (rest : List ℕ) (at : ℕ) (front code : List ℕ) (next : Reading) → Spells insn at (front ++ (code ++ rest)) → IsExact at (front ++ code) next → IsExact at front (expect code next)
-exact_expect insn rest at front [] next is exact = subst (λ (l : List ℕ). IsExact at l next) (append-nil front) exact
-exact_expect insn rest at front (c ∷ code) next is exact =
-    let inner : IsExact at (front ++ c ∷ []) (expect code next) = exact_expect insn rest at (front ++ c ∷ []) code next
-    (subst (λ (l : List ℕ). Spells insn at l) (sym (more front c (code ++ rest))) is)
-    (subst (λ (l : List ℕ). IsExact at l next) (sym (more front c code)) exact) in
+pub exact_expect : (insn : Insn) (rest : List ℕ) (at : ℕ) (prefix code : List ℕ) (next : Reading) → Spells insn at (prefix ++ (code ++ rest)) → IsExact at (prefix ++ code) next → IsExact at prefix (expect code next)
+exact_expect insn rest at prefix [] next is exact = subst (λ (l : List ℕ). IsExact at l next) (append-nil prefix) exact
+exact_expect insn rest at prefix (c ∷ code) next is exact =
+    let inner : IsExact at (prefix ++ c ∷ []) (expect code next) = exact_expect insn rest at (prefix ++ c ∷ []) code next
+    (subst (λ (l : List ℕ). Spells insn at l) (sym (more prefix c (code ++ rest))) is)
+    (subst (λ (l : List ℕ). IsExact at l next) (sym (more prefix c code)) exact) in
     exact_same _ _ (expected c code next)
-    (exact_byte at front _ (cut_by insn at front c (code ++ rest) is)
-    (λ b p. exact_on (λ n. front ++ n ∷ []) b c inner (exact_unknown at _)))
+    (exact_byte at prefix _ (cut_by insn at prefix c (code ++ rest) is)
+    (λ b p. exact_on (λ n. prefix ++ n ∷ []) b c inner (exact_unknown at _)))
 
 -- bytes that begin some spelling
-record Begins (at : ℕ) (front : List ℕ) : Type 0 where
+record Begins (at : ℕ) (prefix : List ℕ) : Type 0 where
   insn : Insn
   rest : List ℕ
-  spelt : Spells insn at (front ++ rest)
+  spelt : Spells insn at (prefix ++ rest)
 
 -- what begins with one byte more
-begins_more : (at : ℕ) (front : List ℕ) (b : ℕ) (begins : Begins at (front ++ b ∷ [])) → Spells begins.insn at (front ++ b ∷ begins.rest)
-begins_more at front b begins =
-    subst (λ (l : List ℕ). Spells begins.insn at l) (more front b begins.rest) begins.spelt
+begins_more : (at : ℕ) (prefix : List ℕ) (b : ℕ) (begins : Begins at (prefix ++ b ∷ [])) → Spells begins.insn at (prefix ++ b ∷ begins.rest)
+begins_more at prefix b begins =
+    subst (λ (l : List ℕ). Spells begins.insn at l) (more prefix b begins.rest) begins.spelt
 
 -- an exact reading of what follows bytes that begin some spelling
 abbrev IsOperand : ℕ → List ℕ → Reading → Type 0
-IsOperand at front k = IsExact at front k × Begins at front
+IsOperand at prefix k = IsExact at prefix k × Begins at prefix
 
 -- a byte of an operand, which may be any
-exact_operand : (at : ℕ) (front : List ℕ) (next : ℕ → Reading) → ((b : ℕ) → b < 256 → IsOperand at (front ++ b ∷ []) (next b)) → IsOperand at front (byte next)
-exact_operand at front next each =
-    let zero_begins : Begins at (front ++ 0 ∷ []) = (each 0 (omega arith)).1 in
-    let longer = begins_more at front 0 zero_begins in (
-      exact_byte at front next (cut_by _ at front 0 zero_begins.rest longer) (λ b p. (each b p).0),
+exact_operand : (at : ℕ) (prefix : List ℕ) (next : ℕ → Reading) → ((b : ℕ) → b < 256 → IsOperand at (prefix ++ b ∷ []) (next b)) → IsOperand at prefix (byte next)
+exact_operand at prefix next each =
+    let zero_begins : Begins at (prefix ++ 0 ∷ []) = (each 0 (omega arith)).1 in
+    let longer = begins_more at prefix 0 zero_begins in (
+      exact_byte at prefix next (cut_by _ at prefix 0 zero_begins.rest longer) (λ b p. (each b p).0),
       record { insn = zero_begins.insn; rest = 0 ∷ zero_begins.rest; spelt = longer },
     )
 
 -- four bytes more
-four_more : (front : List ℕ) (a b c d : ℕ) → (((front ++ a ∷ []) ++ b ∷ []) ++ c ∷ []) ++ d ∷ [] ≡ front ++ a ∷ b ∷ c ∷ d ∷ []
-four_more front a b c d = simp append_assoc
+four_more : (prefix : List ℕ) (a b c d : ℕ) → (((prefix ++ a ∷ []) ++ b ∷ []) ++ c ∷ []) ++ d ∷ [] ≡ prefix ++ a ∷ b ∷ c ∷ d ∷ []
+four_more prefix a b c d = simp append_assoc
 
 -- an operand's last byte ends the instruction
-exact_last : (at : ℕ) (front code : List ℕ) (insn : Insn) (len : ℕ) → front ≡ code → length code ≡ len → Spells insn at code → IsOperand at front (whole insn len)
-exact_last at front code insn len same size is =
-    let spelt : Spells insn at front = subst (λ (l : List ℕ). Spells insn at l) (sym same) is in (
-      exact_whole at front insn len (ap length same ∙ size) spelt,
-      record { insn = insn; rest = []; spelt = subst (λ (l : List ℕ). Spells insn at l) (sym (append-nil front)) spelt },
+exact_last : (at : ℕ) (prefix code : List ℕ) (insn : Insn) (len : ℕ) → prefix ≡ code → length code ≡ len → Spells insn at code → IsOperand at prefix (whole insn len)
+exact_last at prefix code insn len same size is =
+    let spelt : Spells insn at prefix = subst (λ (l : List ℕ). Spells insn at l) (sym same) is in (
+      exact_whole at prefix insn len (ap length same ∙ size) spelt,
+      record { insn = insn; rest = []; spelt = subst (λ (l : List ℕ). Spells insn at l) (sym (append-nil prefix)) spelt },
     )
 
 -- four bytes end an instruction
-pub exact_four : (at : ℕ) (front : List ℕ) (insn : List ℕ → Insn) (len : ℕ) → length front + 4 ≡ len → ((a b c d : ℕ) → a < 256 → b < 256 → c < 256 → d < 256 → Spells (insn (a ∷ b ∷ c ∷ d ∷ [])) at (front ++ a ∷ b ∷ c ∷ d ∷ [])) → IsExact at front (four (λ bytes. whole (insn bytes) len))
-exact_four at front insn len same each =
-    (exact_operand at front _
+pub exact_four : (at : ℕ) (prefix : List ℕ) (insn : List ℕ → Insn) (len : ℕ) → length prefix + 4 ≡ len → ((a b c d : ℕ) → a < 256 → b < 256 → c < 256 → d < 256 → Spells (insn (a ∷ b ∷ c ∷ d ∷ [])) at (prefix ++ a ∷ b ∷ c ∷ d ∷ [])) → IsExact at prefix (four (λ bytes. whole (insn bytes) len))
+exact_four at prefix insn len same each =
+    (exact_operand at prefix _
     (λ a p. exact_operand at _ _
     (λ b q. exact_operand at _ _
     (λ c r. exact_operand at _ _
-    (λ d s. exact_last at _ _ _ len (four_more front a b c d) (length-append front (a ∷ b ∷ c ∷ d ∷ []) ∙ same) (each a b c d p q r s)))))).0
+    (λ d s. exact_last at _ _ _ len (four_more prefix a b c d) (length-append prefix (a ∷ b ∷ c ∷ d ∷ []) ∙ same) (each a b c d p q r s)))))).0
 
 -- a byte that names two registers, or a digit and a register
-pub exact_mod_rm : (at : ℕ) (front : List ℕ) (next : ℕ → ℕ → Reading) → IsCut at front → ((reg rm : ℕ) → reg < 8 → is_register rm ≡ true → IsExact at (front ++ mod_rm reg rm ∷ []) (next reg rm)) → IsExact at front (reading.mod_rm next)
-exact_mod_rm at front next here each =
-    exact_byte at front _ here
+pub exact_mod_rm : (at : ℕ) (prefix : List ℕ) (next : ℕ → ℕ → Reading) → IsCut at prefix → ((reg rm : ℕ) → reg < 8 → is_register rm ≡ true → IsExact at (prefix ++ mod_rm reg rm ∷ []) (next reg rm)) → IsExact at prefix (reading.mod_rm next)
+exact_mod_rm at prefix next here each =
+    exact_byte at prefix _ here
     (λ b p. exact_if (nat_le 0xc0 b && is_register (b % 8))
     (λ is.
     let parts = and_parts _ _ is in
     let from : 0xc0 ≤ b = leb-true 0xc0 b parts.0 in
     let facts = mod_rm_is b p from in
-    subst (λ (m : ℕ). IsExact at (front ++ m ∷ []) (next ((b - 0xc0) / 8) (b % 8))) (sym facts.1)
+    subst (λ (m : ℕ). IsExact at (prefix ++ m ∷ []) (next ((b - 0xc0) / 8) (b % 8))) (sym facts.1)
     (each _ _ facts.0 parts.1))
     (exact_unknown at _))

@@ -6,7 +6,7 @@ use Rattle.std.proofs.lemmas.Option.{same_Some, none-some}
 use Rattle.insn_forms.specs.declared.forms.Form.{Form}
 use Rattle.insn_forms.specs.declared.forms.Form.TheVariants.{Nop2, Nop5, Jmp8 as JmpNear, Jmp32 as JmpFar, Call as CallTo, Ret as Return}
 use Rattle.insn_forms.specs.Displacement.{displacement}
-use Rattle.insn_forms.specs.Spelling.{behind, spell}
+use Rattle.insn_forms.specs.Spelling.{after, spell}
 use Rattle.x64_subset.specs.declared.insn.Insn.{Insn}
 use Rattle.x64_subset.specs.declared.insn.Insn.TheVariants.{Nop, Int3, Jmp8, Jmp32, Call, Ret, Jcc8, Jcc32, Alu, AluImm, Inc, Dec, MovImm, Hlt, Ud2, Out, Endbr64, Serialize}
 use Rattle.x64_subset.specs.Spells.{Spells, Leads, mod_rm}
@@ -58,13 +58,13 @@ spellings_are_unique at Endbr64 code other p q = p ∙ sym q
 spellings_are_unique at Serialize code other p q = p ∙ sym q
 
 -- what an opcode makes of a displacement that there is
-some_displacement : (w : Width) (opcode at len target : ℕ) (code : List ℕ) → 1 + byte_len w ≡ len → option_map (λ rel. opcode ∷ rel) (displacement w (behind at len) target) ≡ Some code → Leads w (opcode ∷ []) at target code
+some_displacement : (w : Width) (opcode at len target : ℕ) (code : List ℕ) → 1 + byte_len w ≡ len → option_map (λ rel. opcode ∷ rel) (displacement w (after at len) target) ≡ Some code → Leads w (opcode ∷ []) at target code
 some_displacement w opcode at len target code same e =
-    go (displacement w (behind at len) target) refl e
+    go (displacement w (after at len) target) refl e
   where
-    go : (d : Option (List ℕ)) → displacement w (behind at len) target ≡ d → option_map (λ rel. opcode ∷ rel) d ≡ Some code → Leads w (opcode ∷ []) at target code
+    go : (d : Option (List ℕ)) → displacement w (after at len) target ≡ d → option_map (λ rel. opcode ∷ rel) d ≡ Some code → Leads w (opcode ∷ []) at target code
     go (Some rel) is e =
-        (rel, ap (λ (n : ℕ). displacement w (behind at n) target) same ∙ is, sym (same_Some _ _ e))
+        (rel, ap (λ (n : ℕ). displacement w (after at n) target) same ∙ is, sym (same_Some _ _ e))
     go None is e = absurd (none-some _ e)
 
 -- a form's name is its instruction's spelling

@@ -7,7 +7,7 @@ use Rattle.std.proofs.lemmas.Bool.Decides.{Decides-eqb, nat_tests}
 use Rattle.std.proofs.lemmas.Option.{same_Some, none-some}
 use Rattle.std.proofs.lemmas.Nat.{from_le_bytes-to_le_bytes_4}
 use Rattle.insn_forms.specs.Displacement.{leads, distance}
-use Rattle.insn_forms.specs.Spelling.{behind}
+use Rattle.insn_forms.specs.Spelling.{after}
 use Rattle.x64_subset.specs.declared.insn.AluOp.{AluOp}
 use Rattle.x64_subset.specs.declared.insn.AluOp.TheVariants.{Add, Sub, Xor, Cmp, Test, Mov}
 use Rattle.x64_subset.specs.declared.insn.Insn.{Insn}
@@ -55,9 +55,9 @@ read_nop at len code is =
     (λ rest. refl) (λ rest. refl) (λ rest. refl) (λ rest. refl) (λ rest. refl) len code is
 
 -- an opcode and a displacement of one byte
-read_near : (insn : ℕ → Insn) (opcode : List ℕ) (at target : ℕ) (code : List ℕ) → ((rel : ℕ) (rest : List ℕ) → read at ((opcode ++ rel ∷ []) ++ rest) ≡ Ok (insn (leads w8 (behind at (length opcode + 1)) (rel ∷ [])), length (opcode ++ rel ∷ []))) → Leads w8 opcode at target code → IsReadOf (insn target) at code
+read_near : (insn : ℕ → Insn) (opcode : List ℕ) (at target : ℕ) (code : List ℕ) → ((rel : ℕ) (rest : List ℕ) → read at ((opcode ++ rel ∷ []) ++ rest) ≡ Ok (insn (leads w8 (after at (length opcode + 1)) (rel ∷ [])), length (opcode ++ rel ∷ []))) → Leads w8 opcode at target code → IsReadOf (insn target) at code
 read_near insn opcode at target code each (rel, some, is) =
-    let from : ℕ = behind at (length opcode + 1) in
+    let from : ℕ = after at (length opcode + 1) in
     let facts = relative w8 from target rel some in
     let last : ℕ = distance from target % 256 in
     let same : code ≡ opcode ++ last ∷ [] = is ∙ ap (λ (r : List ℕ). opcode ++ r) facts.bytes in
@@ -65,9 +65,9 @@ read_near insn opcode at target code each (rel, some, is) =
     (λ rest. each last rest ∙ ap (λ (t : ℕ). Ok (insn t, length (opcode ++ last ∷ []))) facts.leads_to)
 
 -- an opcode and a displacement of four bytes
-read_far : (insn : ℕ → Insn) (opcode : List ℕ) (at target : ℕ) (code : List ℕ) → ((a b c d : ℕ) (rest : List ℕ) → read at ((opcode ++ a ∷ b ∷ c ∷ d ∷ []) ++ rest) ≡ Ok (insn (leads w32 (behind at (length opcode + 4)) (a ∷ b ∷ c ∷ d ∷ [])), length (opcode ++ a ∷ b ∷ c ∷ d ∷ []))) → Leads w32 opcode at target code → IsReadOf (insn target) at code
+read_far : (insn : ℕ → Insn) (opcode : List ℕ) (at target : ℕ) (code : List ℕ) → ((a b c d : ℕ) (rest : List ℕ) → read at ((opcode ++ a ∷ b ∷ c ∷ d ∷ []) ++ rest) ≡ Ok (insn (leads w32 (after at (length opcode + 4)) (a ∷ b ∷ c ∷ d ∷ [])), length (opcode ++ a ∷ b ∷ c ∷ d ∷ []))) → Leads w32 opcode at target code → IsReadOf (insn target) at code
 read_far insn opcode at target code each (rel, some, is) =
-    let from : ℕ = behind at (length opcode + 4) in
+    let from : ℕ = after at (length opcode + 4) in
     let facts = relative w32 from target rel some in
     let n : ℕ = distance from target in
     let same : code ≡ opcode ++ to_le_bytes w32 n = is ∙ ap (λ (r : List ℕ). opcode ++ r) facts.bytes in
@@ -76,17 +76,17 @@ read_far insn opcode at target code each (rel, some, is) =
     each _ _ _ _ rest ∙ ap (λ (t : ℕ). Ok (insn t, length (opcode ++ to_le_bytes w32 n))) facts.leads_to)
 
 -- the conditional jumps
-read_jcc8 : (at : ℕ) (c : ℕ) → is_condition c ≡ true → (rel : ℕ) (rest : List ℕ) → read at ((0x70 + c) ∷ rel ∷ rest) ≡ Ok (Jcc8 c (leads w8 (behind at 2) (rel ∷ [])), 2)
+read_jcc8 : (at : ℕ) (c : ℕ) → is_condition c ≡ true → (rel : ℕ) (rest : List ℕ) → read at ((0x70 + c) ∷ rel ∷ rest) ≡ Ok (Jcc8 c (leads w8 (after at 2) (rel ∷ [])), 2)
 unfolding read
 read_jcc8 at c is rel rest =
-    by_condition (λ c. read at ((0x70 + c) ∷ rel ∷ rest) ≡ Ok (Jcc8 c (leads w8 (behind at 2) (rel ∷ [])), 2))
+    by_condition (λ c. read at ((0x70 + c) ∷ rel ∷ rest) ≡ Ok (Jcc8 c (leads w8 (after at 2) (rel ∷ [])), 2))
     refl refl refl refl refl refl refl refl refl refl refl refl refl refl c is
 
-read_jcc32 : (at : ℕ) (k : ℕ) → is_condition k ≡ true → (a b c d : ℕ) (rest : List ℕ) → read at (0x0f ∷ (0x80 + k) ∷ a ∷ b ∷ c ∷ d ∷ rest) ≡ Ok (Jcc32 k (leads w32 (behind at 6) (a ∷ b ∷ c ∷ d ∷ [])), 6)
+read_jcc32 : (at : ℕ) (k : ℕ) → is_condition k ≡ true → (a b c d : ℕ) (rest : List ℕ) → read at (0x0f ∷ (0x80 + k) ∷ a ∷ b ∷ c ∷ d ∷ rest) ≡ Ok (Jcc32 k (leads w32 (after at 6) (a ∷ b ∷ c ∷ d ∷ [])), 6)
 unfolding read
 read_jcc32 at k is a b c d rest =
     by_condition
-    (λ k. read at (0x0f ∷ (0x80 + k) ∷ a ∷ b ∷ c ∷ d ∷ rest) ≡ Ok (Jcc32 k (leads w32 (behind at 6) (a ∷ b ∷ c ∷ d ∷ [])), 6))
+    (λ k. read at (0x0f ∷ (0x80 + k) ∷ a ∷ b ∷ c ∷ d ∷ rest) ≡ Ok (Jcc32 k (leads w32 (after at 6) (a ∷ b ∷ c ∷ d ∷ [])), 6))
     refl refl refl refl refl refl refl refl refl refl refl refl refl refl k is
 
 -- the byte that names a digit and a register

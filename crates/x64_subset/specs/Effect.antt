@@ -2,7 +2,7 @@
 -- the conditions). Results are 32 bits; overflow is that of the signed result.
 use Rattle.std.specs.Prelude.{◌==◌, ◌||◌, ℕ, ◌+◌, ◌-◌, ◌/◌, ◌%◌, ◌^◌, nat_lt, nat_le, Bool, false, not, if◌then◌else◌, slice_index, slice_set, ℤ, pos, negsuc, ◌+ℤ◌, ◌-ℤ◌, int_lt, bit_and, bit_xor}
 use Rattle.std.specs.Int.{w32, cast_signed}
-use Rattle.insn_forms.specs.Spelling.{behind}
+use Rattle.insn_forms.specs.Spelling.{after}
 use Rattle.x64_subset.specs.declared.insn.AluOp.{AluOp}
 use Rattle.x64_subset.specs.declared.insn.AluOp.TheVariants.{Add, Sub, Xor, Cmp, Test, Mov}
 use Rattle.x64_subset.specs.declared.insn.Insn.{Insn}
@@ -91,14 +91,14 @@ is_met half p =
 abbrev pub holds : ℕ → Proc → Bool
 holds condition p = if condition % 2 == 0 then is_met (condition / 2) p else not (is_met (condition / 2) p)
 
--- the processor at an address, and behind an instruction of so many bytes
+-- the processor at an address, and after an instruction of n bytes
 abbrev pub at_ip : ℕ → Proc → Proc
 at_ip ip p = record p { ip = ip }
 
 abbrev pub next : ℕ → Proc → ℕ
-next len p = behind p.ip len
+next len p = after p.ip len
 
--- the processor goes on behind the instruction and shows nothing
+-- the processor goes on after the instruction and shows nothing
 abbrev pub goes_on : ℕ → Proc → Proc × Mark
 goes_on len p = (at_ip (next len p) p, NoMark)
 
@@ -121,7 +121,7 @@ returns p =
     if p.depth == 0 then ends Done p
     else (record p { depth = p.depth - 1; ip = slice_index p.stack (p.depth - 1) }, NoMark)
 
--- the processor after an instruction of so many bytes, and what it shows
+-- the processor after an instruction of n bytes, and what it shows
 unfoldable pub does : Insn → ℕ → Proc → Proc × Mark
 does (Nop size) len p = goes_on len p
 does Int3 len p = ends (Fault Breakpoint) (at_ip (next len p) p)

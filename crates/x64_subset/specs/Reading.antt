@@ -2,7 +2,7 @@
 use Rattle.std.specs.Prelude.{◌==◌, ◌&&◌, ℕ, ◌-◌, ◌/◌, ◌%◌, nat_le, nat_lt, if◌then◌else◌, List, [], ◌∷◌, Result, Ok, Err}
 use Rattle.std.specs.Int.{w8, w32, from_le_bytes}
 use Rattle.insn_forms.specs.Displacement.{leads}
-use Rattle.insn_forms.specs.Spelling.{behind}
+use Rattle.insn_forms.specs.Spelling.{after}
 use Rattle.x64_subset.specs.declared.insn.AluOp.{AluOp}
 use Rattle.x64_subset.specs.declared.insn.AluOp.TheVariants.{Add, Sub, Xor, Cmp, Test, Mov}
 use Rattle.x64_subset.specs.declared.insn.Insn.{Insn}
@@ -19,7 +19,7 @@ Answer = Result (Insn × ℕ) Undecoded
 abbrev pub Reading : Type 0
 Reading = List ℕ → Answer
 
--- the instruction, so many bytes long, ends here
+-- the instruction, n bytes long, ends here
 abbrev pub whole : Insn → ℕ → Reading
 whole insn len rest = Ok (insn, len)
 
@@ -42,12 +42,12 @@ expect (c ∷ code) next (b ∷ rest) = if b == c then expect code next rest els
 abbrev pub four : (List ℕ → Reading) → Reading
 four next = byte (λ a. byte (λ b. byte (λ c. byte (λ d. next (a ∷ b ∷ c ∷ d ∷ [])))))
 
--- a displacement of one byte and of four, which end an instruction of so many bytes
+-- a displacement of one byte and of four, which end an instruction of n bytes
 abbrev pub near : ℕ → ℕ → (ℕ → Insn) → Reading
-near at len insn = byte (λ rel8. whole (insn (leads w8 (behind at len) (rel8 ∷ []))) len)
+near at len insn = byte (λ rel8. whole (insn (leads w8 (after at len) (rel8 ∷ []))) len)
 
 abbrev pub far : ℕ → ℕ → (ℕ → Insn) → Reading
-far at len insn = four (λ rel32. whole (insn (leads w32 (behind at len) rel32)) len)
+far at len insn = four (λ rel32. whole (insn (leads w32 (after at len) rel32)) len)
 
 -- a byte that names two registers, or a digit and a register
 abbrev pub mod_rm : (ℕ → ℕ → Reading) → Reading
@@ -96,21 +96,21 @@ jcc8 at condition = if is_condition condition then near at 2 (Jcc8 condition) el
 abbrev pub jcc32 : ℕ → ℕ → Reading
 jcc32 at condition = if is_condition condition then far at 6 (Jcc32 condition) else unknown
 
--- behind 66 0F 1F
+-- after 66 0F 1F
 abbrev pub prefixed_nop : ℕ → Reading
 prefixed_nop b =
     if b == 0x44 then expect (0x00 ∷ 0x00 ∷ []) (whole (Nop 6) 6)
     else if b == 0x84 then expect (0x00 ∷ 0x00 ∷ 0x00 ∷ 0x00 ∷ 0x00 ∷ []) (whole (Nop 9) 9)
     else unknown
 
--- behind 66
+-- after 66
 abbrev pub prefixed : ℕ → Reading
 prefixed b =
     if b == 0x90 then whole (Nop 2) 2
     else if b == 0x0f then expect (0x1f ∷ []) (byte prefixed_nop)
     else unknown
 
--- behind 0F 1F
+-- after 0F 1F
 abbrev pub long_nop : ℕ → Reading
 long_nop b =
     if b == 0x00 then whole (Nop 3) 3
@@ -120,7 +120,7 @@ long_nop b =
     else if b == 0x84 then expect (0x00 ∷ 0x00 ∷ 0x00 ∷ 0x00 ∷ 0x00 ∷ []) (whole (Nop 8) 8)
     else unknown
 
--- behind 0F
+-- after 0F
 abbrev pub escaped : ℕ → ℕ → Reading
 escaped at b =
     if b == 0x01 then expect (0xe8 ∷ []) (whole Serialize 3)

@@ -2,9 +2,9 @@
 -- is 11 throughout).
 use Rattle.std.specs.Prelude.{◌≡◌, ◌==◌, ◌<◌, ◌+◌, ◌*◌, ◌^◌, ℕ, true, if◌then◌else◌, List, [], ◌∷◌, ◌++◌, length, take, ◌≤◌, Option, Some, None}
 use Rattle.std.specs.Int.{Width, w8, w32, byte_len, to_le_bytes}
-use Rattle.poke_base.specs.Text.{IsFront}
+use Rattle.poke_base.specs.Text.{IsPrefix}
 use Rattle.insn_forms.specs.Displacement.{displacement}
-use Rattle.insn_forms.specs.Spelling.{behind}
+use Rattle.insn_forms.specs.Spelling.{after}
 use Rattle.x64_subset.specs.declared.insn.AluOp.{AluOp}
 use Rattle.x64_subset.specs.declared.insn.AluOp.TheVariants.{Add, Sub, Xor, Cmp, Test, Mov}
 use Rattle.x64_subset.specs.declared.insn.Insn.{Insn}
@@ -41,7 +41,7 @@ mod_rm reg rm = 0xc0 + 8 * reg + rm
 -- an opcode, and the displacement that leads to the target from the end of the instruction
 abbrev pub Leads : Width → List ℕ → ℕ → ℕ → List ℕ → Type 0
 Leads w opcode at target bytes =
-    (rel : List ℕ) × (displacement w (behind at (length opcode + byte_len w)) target ≡ Some rel) × (bytes ≡ opcode ++ rel)
+    (rel : List ℕ) × (displacement w (after at (length opcode + byte_len w)) target ≡ Some rel) × (bytes ≡ opcode ++ rel)
 
 -- the bytes are those of the instruction at the address
 unfoldable pub Spells : Insn → ℕ → List ℕ → Type 0
@@ -77,7 +77,7 @@ pub record IsCut (at : ℕ) (bytes : List ℕ) : Type 0 where
   pub insn : Insn
   pub code : List ℕ
   pub spelt : Spells insn at code
-  pub front : IsFront bytes code
+  pub prefix : IsPrefix bytes code
   pub shorter : length bytes < length code
 
 -- no spelling begins so, and none is how the bytes begin

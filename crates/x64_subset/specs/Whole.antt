@@ -10,7 +10,7 @@ use Rattle.x64_subset.specs.declared.proc.Mark.{Mark}
 use Rattle.x64_subset.specs.declared.proc.Mark.TheVariants.{None as NoMark, Out, Ended}
 use Rattle.x64_subset.specs.Effect.{does, at_ip}
 
--- the bytes of a form's first instruction: its spelling, but of RET without the filling behind it
+-- the bytes of a form's first instruction: its spelling, but of RET without the filling after it
 abbrev pub name : Form → ℕ → Option (List ℕ)
 name Nop2 at = spell Nop2 at
 name Nop5 at = spell Nop5 at

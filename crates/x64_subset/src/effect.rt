@@ -14,10 +14,10 @@ use crate::{FaultKind, Insn, Life, Mark, Proc};
 /// conditions numbers below 16, but not 10 or 11; a byte as operand goes with Add, Sub or Cmp; a NOP
 /// has 1 to 9 bytes. The processor has at most 64 return addresses, before and after.
 ///
-/// The processor goes on at a jump's target or else behind the instruction; addresses wrap modulo
+/// The processor goes on at a jump's target or else after the instruction; addresses wrap modulo
 /// 2^64. It ends where it executes RET with no return address (`Done`), HLT (`Halted`), UD2
 /// (`Undefined`), INT3 (`Breakpoint`) or CALL with 64 return addresses (`Depth`). Then only its `life`
-/// is another, but for INT3, behind which it stands.
+/// is another, but for INT3, after which it stands.
 ///
 /// The mark is `Ended` where the processor ends, the port and AL at OUT, and else `None`.
 ///

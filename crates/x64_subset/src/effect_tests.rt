@@ -30,7 +30,7 @@ fn proc_with(eax: u32, ecx: u32, flags: &str) -> Proc
 }
 
 /// Checks that the instruction, of two bytes, makes `left` of a processor, but for the address, and
-/// goes on behind.
+/// goes on after.
 fn check(rt: &impl Abort, insn: Insn, mut proc: Proc, mut left: Proc)
     requires listed { is_listed insn ≡ true }
     requires running { proc.life ≡ Running }

@@ -7,14 +7,14 @@ ghost use Rattle.x64_subset.specs.Effect.{at_ip, next, goes_on, jumps, ends, cal
 use crate::{FaultKind, Life, Mark, Proc};
 
 impl Proc {
-    /// The address behind an instruction of `len` bytes.
+    /// The address after an instruction of `len` bytes.
     fn next(&self, len: u8) -> u64
         ensures { result ≡ next len self.now }
     {
         self.ip.wrapping_add(u64::from(len))
     }
 
-    /// Goes on behind an instruction of `len` bytes, and shows nothing.
+    /// Goes on after an instruction of `len` bytes, and shows nothing.
     pub(crate) fn go_on(&mut self, len: u8) -> Mark
         ensures proc { self.new ≡ (goes_on len self.old).0 }
         ensures mark { result ≡ (goes_on len self.old).1 }
@@ -32,7 +32,7 @@ impl Proc {
         Mark::None
     }
 
-    /// Goes on at the target where the condition holds, and else behind the instruction of `len` bytes.
+    /// Goes on at the target where the condition holds, and else after the instruction of `len` bytes.
     pub(crate) fn jump_if(&mut self, condition: u8, target: u64, len: u8) -> Mark
         requires { is_condition condition ≡ true }
         ensures proc { self.new ≡ (if holds condition self.old then jumps target self.old else goes_on len self.old).0 }
@@ -54,7 +54,7 @@ impl Proc {
         Mark::Ended
     }
 
-    /// Pushes the address behind the instruction of `len` bytes, and goes on at the target. With 64
+    /// Pushes the address after the instruction of `len` bytes, and goes on at the target. With 64
     /// return addresses it ends in a fault.
     pub(crate) fn call(&mut self, target: u64, len: u8) -> Mark
         requires { self.old.depth ≤ 64 }
@@ -82,7 +82,7 @@ impl Proc {
         self.jump(self.stack[usize::from(self.depth)])
     }
 
-    /// Goes on behind an instruction of `len` bytes, and shows AL at a port.
+    /// Goes on after an instruction of `len` bytes, and shows AL at a port.
     pub(crate) fn out(&mut self, port: u8, len: u8) -> Mark
         ensures proc { self.new ≡ at_ip (next len self.old) self.old }
         ensures mark { result ≡ Out port (register 0 self.old % 256) }

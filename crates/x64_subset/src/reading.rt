@@ -62,7 +62,7 @@ fn by_opcode(at: u64, opcode: u8, rest: &[u8]) -> Decoded
     }
 }
 
-/// Behind `0F`.
+/// After `0F`.
 fn escaped(at: u64, rest: &[u8]) -> Decoded
     ensures { result ≡ byte (escaped at) rest.now }
 {
@@ -76,7 +76,7 @@ fn escaped(at: u64, rest: &[u8]) -> Decoded
     }
 }
 
-/// Behind `66`.
+/// After `66`.
 fn prefixed(rest: &[u8]) -> Decoded
     ensures { result ≡ byte prefixed rest.now }
 {
@@ -88,7 +88,7 @@ fn prefixed(rest: &[u8]) -> Decoded
     }
 }
 
-/// Behind `66 0F`.
+/// After `66 0F`.
 fn prefixed_nop(rest: &[u8]) -> Decoded
     ensures { result ≡ expect (0x1f ∷ []) (byte prefixed_nop) rest.now }
 {
@@ -104,7 +104,7 @@ fn prefixed_nop(rest: &[u8]) -> Decoded
     }
 }
 
-/// Behind `0F 1F`.
+/// After `0F 1F`.
 fn long_nop(rest: &[u8]) -> Decoded
     ensures { result ≡ byte long_nop rest.now }
 {
@@ -224,7 +224,7 @@ fn far_target(at: u64, len: u8, rest: &[u8]) -> Result<u64, Undecoded>
     Ok(target32(at.wrapping_add(u64::from(len)), rel32))
 }
 
-/// A digit or a register, a register, and the bytes behind the ModRM byte that names them.
+/// A digit or a register, a register, and the bytes after the ModRM byte that names them.
 fn mod_rm(rest: &[u8]) -> Result<(u8, u8, &[u8]), Undecoded>
     ensures { MatchResult result (λ found. (next : ℕ → ℕ → Reading) → mod_rm next rest.now ≡ next found.0 found.1 found.2.now)
         (λ fail. (next : ℕ → ℕ → Reading) → mod_rm next rest.now ≡ Err fail) }
@@ -251,7 +251,7 @@ fn expect(code: &[u8], rest: &[u8], insn: Insn, len: u8) -> Decoded
     }
 }
 
-/// One byte, and the bytes behind it.
+/// One byte, and the bytes after it.
 fn next_byte(rest: &[u8]) -> Result<(u8, &[u8]), Undecoded>
     ensures { MatchResult result (λ found. rest.now ≡ found.0 ∷ found.1.now) (λ fail. (rest.now ≡ []) × (fail ≡ Short)) }
 {

@@ -7,7 +7,7 @@ use super::AT;
 use crate::{FaultKind, Insn, Life, Mark, Proc, execute};
 use std::process::Abort;
 
-/// A processor with numbers in its registers, flags set, and so many return addresses.
+/// A processor with numbers in its registers, flags set, and n return addresses.
 fn deep(depth: u8) -> Proc
     requires { depth ≤ 64 }
     ensures running { result.life ≡ Running }
@@ -65,7 +65,7 @@ fn check_on(rt: &impl Abort, insn: Insn, len: u8, proc: Proc, left: Proc)
     check(rt, insn, len, proc, left, Mark::None);
 }
 
-/// Checks an instruction behind which the processor doesn't go on.
+/// Checks an instruction after which the processor doesn't go on.
 fn check_end(rt: &impl Abort, insn: Insn, len: u8, proc: Proc, left: Proc)
     requires listed { is_listed insn ≡ true }
     requires running { proc.life ≡ Running }
@@ -75,7 +75,7 @@ fn check_end(rt: &impl Abort, insn: Insn, len: u8, proc: Proc, left: Proc)
 }
 
 #[test]
-fn goes_on_behind(rt: HostRuntime) {
+fn goes_on_after(rt: HostRuntime) {
     check_on(&rt, Insn::Nop(9), 9, deep(2), deep_at(2, 0x40_1009));
     check_on(&rt, Insn::Endbr64, 4, deep(2), deep_at(2, 0x40_1004));
     check_on(&rt, Insn::Serialize, 3, deep(2), deep_at(2, 0x40_1003));

@@ -4,7 +4,7 @@ use Rattle.elf_build.specs.declared.plan.PlanSite.{PlanSite}
 use Rattle.elf_build.specs.declared.plan.PlanSite.TheVariants.{Jump}
 use Rattle.elf_build.specs.Fits.{site_fits}
 use Rattle.elf_build.specs.File.{entry_bytes, table_at}
-use Rattle.elf_build.proofs.Appends.{all-behind, all-next, entry-more}
+use Rattle.elf_build.proofs.Appends.{all-after, all-next, entry-more}
 use Rattle.elf_build.proofs.contents.add_table.Goals as goal
 
 pub add_entry-requires-clause-site : goal.add_entry-requires-clause-site
@@ -31,5 +31,5 @@ loop-site-preserved c =
           );
       longer = let before = c.loop-site.invariant.longer in let more = added.longer in omega arith;
       short = let before = c.loop-site.invariant.short in let more = added.short in omega arith;
-      fits = all-behind (site_fits c.args.plan.now) c.args.plan.now.sites.items c.loop-site.site-index (Jump 0 0 0 false) below c.loop-site.invariant.fits;
+      fits = all-after (site_fits c.args.plan.now) c.args.plan.now.sites.items c.loop-site.site-index (Jump 0 0 0 false) below c.loop-site.invariant.fits;
     }

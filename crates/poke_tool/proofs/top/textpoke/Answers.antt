@@ -6,7 +6,7 @@ use Rattle.poke_tool.specs.Runs.{RunsRow}
 use Rattle.poke_tool.proofs.Endings.{asks_in_order, bad_words, ends_aloud, ends_making, ends_saying, leaves_all, read_fault, write_fault}
 use Rattle.poke_tool.proofs.top.textpoke.Goals as goal
 
--- the program ends with a fault that was complained
+-- the program ends with a fault that was reported
 pub returns-in-Err-clause-runs : goal.returns-in-Err-clause-runs
 returns-in-Err-clause-runs g c = record {
   middle = g.H.Host.outside c.do_command.new.host;

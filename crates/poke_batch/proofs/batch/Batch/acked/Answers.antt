@@ -17,7 +17,7 @@ invariant_of-self c = record {
   unfinished = cleared-unfinished c.self.inside.cpus c.self.invariant.some_cpus c.self.invariant.most_cpus;
 }
 
--- the step behind the last acknowledgement
+-- the step after the last acknowledgement
 passes : (c : goal.After-self-then-all_set-1) → IfSome (state_of c.self.inside).update (λ walk. (state_of (record c.self.inside { stage = c.after_sync-self-inside.result; acks = replicate 16 false })).update ≡ Some (taken c.args.cpu walk))
 passes c =
     let waits = rw (← c.self.view_is) at c.requires.waits in
@@ -38,7 +38,7 @@ returns-then-all_set-clause-others c =
     rw (← c.self.view_is)
     (taken-others _ _ c.args.cpu c.self.inside.cpus (passes c) (flag_each c.self.inside.stage _ c.self.inside.acks c.self.inside.cpus few) waits)
 
--- the step behind another acknowledgement
+-- the step after another acknowledgement
 stays : (c : goal.Else-all_set) → IfSome (state_of c.self.inside).update (λ walk. (state_of (record c.self.inside { acks = set c.self.inside.acks c.from.result true })).update ≡ Some (taken c.args.cpu walk))
 stays c =
     let known = rw (← c.self.view_is) at c.requires.known in

@@ -5,7 +5,7 @@ use Rattle.poke_batch.proofs.Stages.{no_later, patched_moves, state_steps}
 use Rattle.poke_batch.proofs.Walks.{moved-requests, moved-returns, moved-writes}
 use Rattle.poke_batch.proofs.batch.Batch.took.Goals as goal
 
--- the update behind the due write, request or return
+-- the update after the due write, request or return
 step : (c : goal.After-self-1) → IfSome (state_of c.self.inside).update (λ walk. (state_of (record c.self.inside { stage = c.after_due-self-inside.result })).update ≡ moved walk)
 step c =
     rw c.after_due-self-inside.ensures
