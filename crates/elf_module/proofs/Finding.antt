@@ -1,8 +1,8 @@
 -- A look-up among the values of a function, by index and by a test.
-use Rattle.std.proofs.Common.{◌≡◌, ◌<◌, ◌≤◌, ◌+◌, ◌∙◌, ℕ, zero, suc, Bool, true, false, length, map, Some, None, refl, ap, arith, inl, inr}
+use Rattle.std.proofs.Common.{◌≡◌, ◌<◌, ◌≤◌, ◌+◌, ◌∙◌, ℕ, zero, suc, Bool, true, false, length, map, Some, None, option_map, refl, sym, ap, arith, inl, inr}
 use Rattle.std.specs.List.{find, range_with_len, slice_get}
 use Rattle.std.proofs.lemmas.Bool.{cases_lt}
-use Rattle.std.proofs.lemmas.Option.{slice_get-get_or, slice_get_past}
+use Rattle.std.proofs.lemmas.Option.{slice_get-get_or, slice_get_past, same_Some, none-some}
 use Rattle.std.proofs.lemmas.List.FromFn.{length-map-range_with_len, get_or-map-range_with_len}
 
 -- the first value that passes is found
@@ -29,3 +29,15 @@ get_within f n i lt =
 -- no value stands past the last index
 pub get_past : {X : Type 0} (f : ℕ → X) (n i : ℕ) → n ≤ i → slice_get (map f (range_with_len 0 n)) i ≡ None
 get_past f n i le = slice_get_past (map f (range_with_len 0 n)) i (omega (arith, length-map-range_with_len f 0 n))
+
+-- what is asked of the value at an index
+pub asked_within : {X Y : Type 0} (f : ℕ → X) (ask : X → Y) (n i : ℕ) (answer : Y) → i < n → answer ≡ ask (f i)
+    → option_map ask (slice_get (map f (range_with_len 0 n)) i) ≡ Some answer
+asked_within f ask n i answer lt is = ap (option_map ask) (get_within f n i lt) ∙ ap Some (sym is)
+
+-- an item of the list is one of the values
+pub got_value : {X : Type 0} (f : ℕ → X) (n i : ℕ) (x : X) → slice_get (map f (range_with_len 0 n)) i ≡ Some x → f i ≡ x
+got_value f n i x got = elim (cases_lt i n) [
+  | inl lt ↦ same_Some (f i) x (sym (get_within f n i lt) ∙ got)
+  | inr le ↦ absurd (none-some x (sym (get_past f n i le) ∙ got))
+]

@@ -1,9 +1,11 @@
 -- What an ELF64 file says (System V gABI: ELF header, section header, string table, symbol table), field by field.
-use Rattle.std.specs.Prelude.{◌==◌, ◌||◌, ◌&&◌, ℕ, ◌+◌, ◌-◌, ◌*◌, ◌/◌, ◌%◌, Bool, not, nat_lt, nat_le, if◌then◌else◌, List, [], length, take, drop, map, find, slice_index, Option, Some, None, option_map}
+use Rattle.std.specs.Prelude.{◌==◌, ◌||◌, ◌&&◌, ℕ, ◌+◌, ◌-◌, ◌*◌, ◌/◌, ◌%◌, ◌^◌, Bool, not, nat_lt, nat_le, if◌then◌else◌, List, [], length, take, drop, map, find, slice_index, Option, Some, None, option_map}
 use Rattle.std.specs.List.{before_first, range_with_len}
 use Rattle.byteorder.specs.Endian.{little_number}
 use Rattle.elf_module.specs.declared.records.Section.{Section}
+use Rattle.elf_module.specs.declared.records.SectionHeader.{SectionHeader}
 use Rattle.elf_module.specs.declared.records.Symbol.{Symbol}
+use Rattle.elf_module.specs.declared.records.SymbolEntry.{SymbolEntry}
 
 -- the number in n bytes at an offset, the lowest first
 unfoldable pub field : ℕ → ℕ → List ℕ → ℕ
@@ -165,6 +167,14 @@ byte_at s at = if s.kind == sht_nobits then 0 else slice_index s.content (at - s
 abbrev pub loaded : List SectionRecord → ℕ → Option ℕ
 loaded sections at = option_map (λ s. byte_at s at) (find (λ s. covers s at) sections)
 
+-- the byte that a section has at an address, where it covers it
+abbrev pub byte_over : SectionRecord → ℕ → Option ℕ
+byte_over s at = if covers s at then Some (byte_at s at) else None
+
+-- the bytes that are loaded at n addresses from one on; addresses wrap modulo 2 ^ 64
+abbrev pub loaded_from : List SectionRecord → ℕ → ℕ → List (Option ℕ)
+loaded_from sections n at = map (λ i. loaded sections ((at + i) % 2 ^ 64)) (range_with_len 0 n)
+
 -- the records of what the program reads
 abbrev pub section_of : Section → SectionRecord
 section_of s = record {
@@ -180,6 +190,26 @@ section_of s = record {
 
 abbrev pub symbol_of : Symbol → SymbolRecord
 symbol_of s = record { name = s.name.now; info = s.info; shndx = s.shndx; value = s.value }
+
+-- a section without its name
+abbrev pub unnamed : SectionRecord → SectionRecord
+unnamed s = record s { name = [] }
+
+abbrev pub header_of : SectionHeader → SectionRecord
+header_of s = record {
+  index = s.index;
+  name = [];
+  kind = s.kind;
+  flags = s.flags;
+  addr = s.addr;
+  size = s.size;
+  link = s.link;
+  content = s.content.now;
+}
+
+-- a symbol without its name
+abbrev pub entry_of : SymbolRecord → SymbolEntry
+entry_of s = record { info = s.info; shndx = s.shndx; value = s.value }
 
 -- what a contract sees of a file that was read
 pub record Elf : Type 0 where

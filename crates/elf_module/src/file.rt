@@ -1,6 +1,6 @@
 //! Reading an ELF64 file.
 use crate::header::{class, data, headers, kind, long, machine, magic, relocatable, version};
-use crate::records::{Section, Symbol};
+use crate::records::{Section, SectionHeader, Symbol, SymbolEntry};
 use crate::refused::ElfRefused;
 use crate::sections::{Sections, inside, named};
 use crate::symbols::{Symbols, find_symbols};
@@ -27,9 +27,9 @@ impl<'a> Model for ElfFile<'a> {
 }
 
 impl<'a> ElfFile<'a> {
-    ghost use Rattle.std.specs.Prelude.{◌≡◌, ◌<◌, ◌≤◌, ◌-◌, ◌^◌, option_map, find, length, slice_get, IfOk, IfErr, IfSome};
+    ghost use Rattle.std.specs.Prelude.{◌≡◌, ◌<◌, ◌≤◌, ◌-◌, ◌^◌, ℕ, Some, option_map, find, length, slice_get, IfOk, IfErr, IfSome};
     ghost use Rattle.std.specs.Str.{bytes_eq};
-    ghost use Rattle.elf_module.specs.Elf.{section_of, symbol_of, loaded};
+    ghost use Rattle.elf_module.specs.Elf.{SectionRecord, section_of, header_of, unnamed, symbol_of, entry_of, loaded, loaded_from};
     ghost use Rattle.elf_module.specs.Refusals.{IsRefusal, Reads};
 
     /// Reads a file of fewer than 2^32 - 1 bytes. Sums of offsets and sizes don't wrap.
@@ -86,6 +86,42 @@ impl<'a> ElfFile<'a> {
         self.symbols.get(i)
     }
 
+    /// The section with an index, without its name: its name isn't looked at. `None` exactly for an index that
+    /// isn't below the count.
+    pub fn section_header(&self, i: u16) -> Option<SectionHeader<'a>>
+        ensures section { option_map header_of result ≡ option_map unnamed (slice_get self.now.sections i) }
+        ensures small { IfSome result (λ section. length section.content.now < 2 ^ 32 - 1) }
+        ensures sized { IfSome result (λ section. length section.content.now ≤ section.size) }
+    {
+        self.sections.get_header(i)
+    }
+
+    /// The symbol with a number, without its name: its name isn't looked at. `None` exactly for a number that
+    /// isn't below the count.
+    pub fn symbol_entry(&self, i: u32) -> Option<SymbolEntry>
+        ensures { result ≡ option_map entry_of (slice_get self.now.symbols i) }
+    {
+        self.symbols.get_entry(i)
+    }
+
+    /// Whether the section with an index has this name. It looks at no more of the file's name than this one is
+    /// long, and one byte.
+    pub fn is_section_named(&self, i: u16, name: &[u8]) -> bool
+        requires { i < length self.now.sections }
+        ensures { option_map (λ s. bytes_eq s.name name.now) (slice_get self.now.sections i) ≡ Some result }
+    {
+        self.sections.is_named(i, name)
+    }
+
+    /// Whether the symbol with a number has this name. It looks at no more of the file's name than this one is
+    /// long, and one byte.
+    pub fn is_symbol_named(&self, i: u32, name: &[u8]) -> bool
+        requires { i < length self.now.symbols }
+        ensures { option_map (λ s. bytes_eq s.name name.now) (slice_get self.now.symbols i) ≡ Some result }
+    {
+        self.symbols.is_named(i, name)
+    }
+
     /// The first section of a name, in index order. `None` exactly where there is none.
     pub fn section_named(&self, name: &[u8]) -> Option<Section<'a>>
         ensures first { option_map section_of result ≡ find (λ s. bytes_eq s.name name.now) self.now.sections }
@@ -102,5 +138,21 @@ impl<'a> ElfFile<'a> {
         ensures { result ≡ loaded self.now.sections at }
     {
         self.sections.load(at)
+    }
+
+    /// The bytes that are loaded at the 16 addresses from one on, each as `load` says, in one pass over the
+    /// sections. Addresses wrap modulo 2^64.
+    pub fn load_16(&self, at: u64) -> [Option<u8>; 16]
+        ensures { result ≡ loaded_from self.now.sections 16 at }
+    {
+        self.sections.load_16(at)
+    }
+
+    /// How many bytes the file has.
+    pub fn byte_count(&self) -> u32
+        ensures small { result < 2 ^ 32 - 1 }
+        ensures least { (i : ℕ) (s : SectionRecord) → slice_get self.now.sections i ≡ Some s → length s.content ≤ result }
+    {
+        self.sections.headers.bytes.len() as u32
     }
 }

@@ -37,9 +37,9 @@ pub(crate) struct Headers<'a> {
     ghost names_below: { names < count },
 }
 
-/// The header of a section: the fields that are read.
+/// The fields of a section's header that are read.
 #[derive(Clone, Copy)]
-pub(crate) struct SectionHeader {
+pub(crate) struct HeaderFields {
     pub(crate) name: u32,
     pub(crate) kind: u32,
     pub(crate) flags: u64,
@@ -51,7 +51,7 @@ pub(crate) struct SectionHeader {
 
 impl Headers<'_> {
     /// The header of the section with an index.
-    pub(crate) fn header(&self, i: u16) -> SectionHeader
+    pub(crate) fn header(&self, i: u16) -> HeaderFields
         requires { i < self.now.count }
         ensures name { result.name ≡ sh_name self.now.bytes.now i }
         ensures kind { result.kind ≡ sh_type self.now.bytes.now i }
@@ -62,7 +62,7 @@ impl Headers<'_> {
         ensures link { result.link ≡ sh_link self.now.bytes.now i }
     {
         let at = self.offset + usize::from(HEADER_SIZE) * usize::from(i);
-        SectionHeader {
+        HeaderFields {
             name: u32_at(self.bytes, at),
             kind: u32_at(self.bytes, at + 4),
             flags: u64_at(self.bytes, at + 8),
@@ -74,7 +74,7 @@ impl Headers<'_> {
     }
 }
 
-impl SectionHeader {
+impl HeaderFields {
     /// Whether a section of this type has no bytes in the file.
     pub(crate) fn is_empty(&self) -> bool
         ensures { result ≡ is_empty_type self.now.kind }

@@ -14,5 +14,5 @@ mod symbols;
 mod tests;
 
 pub use file::ElfFile;
-pub use records::{Section, Symbol};
+pub use records::{Section, SectionHeader, Symbol, SymbolEntry};
 pub use refused::ElfRefused;

@@ -1,13 +1,16 @@
 //! The sections of a file, each of which stands in it.
-ghost use Rattle.std.specs.Prelude.{◌≡◌, ◌<◌, ◌≤◌, true, option_map, find, length, slice_get, IfOk, IfSome, MatchOption};
+ghost use Rattle.std.specs.Prelude.{◌≡◌, ◌<◌, ◌≤◌, ◌+◌, ◌%◌, ◌^◌, ℕ, true, None, option_map, find, length, map, slice_get, slice_index_or, IfOk, IfSome, IsTrue, MatchOption};
+ghost use Rattle.std.specs.List.{range_with_len};
+ghost use Rattle.std.specs.Option.{option_or};
 ghost use Rattle.std.specs.Str.{bytes_eq};
-ghost use Rattle.elf_module.specs.Elf.{byte_at, content, covers, e_shnum, e_shstrndx, loaded, section_at, section_of, sections_of, symtab_of};
+ghost use Rattle.elf_module.specs.Elf.{byte_at, byte_over, content, covers, e_shnum, e_shstrndx, header_of, loaded, loaded_from, name_in, section_at, section_of, sections_of, sh_name, symtab_of, unnamed};
 ghost use Rattle.elf_module.specs.Refusals.{AreInside, IsStringTable, Passes, Tries};
 
 use crate::headers::{Headers, SHT_NOBITS, SHT_NULL, SHT_STRTAB, SHT_SYMTAB};
 use crate::names::{is_name_at, name_at, names_end};
-use crate::records::Section;
+use crate::records::{Section, SectionHeader};
 use crate::refused::ElfRefused;
+use std::array;
 
 /// The sections of a file, none of which reaches past it.
 #[derive(Clone, Copy)]
@@ -62,10 +65,37 @@ impl<'a> Sections<'a> {
         ensures within { length result.content.now ≤ length self.now.headers.bytes.now }
         ensures sized { length result.content.now ≤ result.size }
     {
-        let header = self.headers.header(index);
+        let header = self.header(index);
         Section {
             index,
-            name: name_at(self.names, header.name as usize),
+            name: self.name(index),
+            kind: header.kind,
+            flags: header.flags,
+            addr: header.addr,
+            size: header.size,
+            link: header.link,
+            content: header.content,
+        }
+    }
+
+    /// The name of the section with an index below the count.
+    fn name(&self, index: u16) -> &'a [u8]
+        requires { index < self.now.headers.count }
+        ensures { result.now ≡ name_in (content self.now.headers.bytes.now (e_shstrndx self.now.headers.bytes.now)) (sh_name self.now.headers.bytes.now index) }
+    {
+        name_at(self.names, self.headers.header(index).name as usize)
+    }
+
+    /// The section with an index below the count, without its name.
+    fn header(&self, index: u16) -> SectionHeader<'a>
+        requires { index < self.now.headers.count }
+        ensures at { header_of result ≡ unnamed (section_at self.now.headers.bytes.now index) }
+        ensures within { length result.content.now ≤ length self.now.headers.bytes.now }
+        ensures sized { length result.content.now ≤ result.size }
+    {
+        let header = self.headers.header(index);
+        SectionHeader {
+            index,
             kind: header.kind,
             flags: header.flags,
             addr: header.addr,
@@ -73,6 +103,27 @@ impl<'a> Sections<'a> {
             link: header.link,
             content: header.content(self.headers.bytes),
         }
+    }
+
+    /// The section with an index, without its name.
+    pub(crate) fn get_header(&self, index: u16) -> Option<SectionHeader<'a>>
+        ensures found { option_map header_of result ≡ option_map unnamed (slice_get (sections_of self.now.headers.bytes.now) index) }
+        ensures within { IfSome result (λ section. length section.content.now ≤ length self.now.headers.bytes.now) }
+        ensures sized { IfSome result (λ section. length section.content.now ≤ section.size) }
+    {
+        if index < self.headers.count {
+            Some(self.header(index))
+        } else {
+            None
+        }
+    }
+
+    /// Whether the section with an index below the count has this name.
+    pub(crate) fn is_named(&self, index: u16, name: &[u8]) -> bool
+        requires { index < self.now.headers.count }
+        ensures { result ≡ bytes_eq (section_at self.now.headers.bytes.now index).name name.now }
+    {
+        is_name_at(self.names, self.headers.header(index).name as usize, name)
     }
 
     /// The section with an index.
@@ -122,7 +173,7 @@ impl<'a> Sections<'a> {
         ensures sized { IfSome result (λ section. length section.content.now ≤ section.size) }
     {
         for i in 0..self.headers.count {
-            if is_name_at(self.names, self.headers.header(i).name as usize, name) {
+            if self.is_named(i, name) {
                 return Some(self.at(i));
             }
         }
@@ -139,6 +190,60 @@ impl<'a> Sections<'a> {
             }
         }
         None
+    }
+
+    /// The 16 bytes that are loaded from an address on.
+    pub(crate) fn load_16(&self, at: u64) -> [Option<u8>; 16]
+        ensures { result ≡ loaded_from (sections_of self.now.headers.bytes.now) 16 at }
+    {
+        let mut bytes = [None; 16];
+        for i in 0..self.headers.count {
+            if self.may_cover(i, at) {
+                bytes = self.load_over(i, at, &bytes);
+            }
+        }
+        bytes
+    }
+
+    /// Whether the section with an index may be loaded over one of the 16 bytes from an address on: it begins at
+    /// one, or has the first. Both differences wrap, as the addresses of the bytes do.
+    fn may_cover(&self, index: u16, at: u64) -> bool
+        requires { index < self.now.headers.count }
+        ensures { (k : ℕ) → k < 16 → IsTrue (covers (section_at self.now.headers.bytes.now index) ((at + k) % 2 ^ 64)) → IsTrue result }
+    {
+        let header = self.headers.header(index);
+        header.addr.wrapping_sub(at) < 16 || at.wrapping_sub(header.addr) < header.size
+    }
+
+    /// Bytes from an address on, with those of the section with an index where one is missing.
+    fn load_over(&self, index: u16, at: u64, bytes: &[Option<u8>; 16]) -> [Option<u8>; 16]
+        requires { index < self.now.headers.count }
+        ensures { result ≡ map (λ k. option_or (slice_index_or bytes.now k None) (byte_over (section_at self.now.headers.bytes.now index) ((at + k) % 2 ^ 64))) (range_with_len 0 16) }
+    {
+        array::from_fn(|k| self.byte_or(index, at, bytes, k))
+    }
+
+    /// A byte of those from an address on, or where it is missing that of the section with an index.
+    fn byte_or(&self, index: u16, at: u64, bytes: &[Option<u8>; 16], k: usize) -> Option<u8>
+        requires { index < self.now.headers.count }
+        ensures { result ≡ option_or (slice_index_or bytes.now k None) (byte_over (section_at self.now.headers.bytes.now index) ((at + k) % 2 ^ 64)) }
+    {
+        match bytes.get(k).copied().flatten() {
+            Some(byte) => Some(byte),
+            None => self.byte_over(index, at.wrapping_add(k as u64)),
+        }
+    }
+
+    /// The byte of the section with an index at an address, where it is loaded over it.
+    fn byte_over(&self, index: u16, at: u64) -> Option<u8>
+        requires { index < self.now.headers.count }
+        ensures { result ≡ byte_over (section_at self.now.headers.bytes.now index) at }
+    {
+        if self.covers(index, at) {
+            Some(self.byte_at(index, at))
+        } else {
+            None
+        }
     }
 
     /// Whether the section with an index is loaded over an address.

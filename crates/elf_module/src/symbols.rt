@@ -1,11 +1,12 @@
 //! The symbols of a file.
 ghost use Rattle.std.specs.Prelude.{◌≡◌, ◌<◌, ◌≤◌, ◌+◌, ◌-◌, ◌*◌, ◌/◌, ◌^◌, ℕ, drop, length, option_map, slice_get, IfOk, MatchOption};
-ghost use Rattle.elf_module.specs.Elf.{field, symbol_in, symbol_of, symbols_from, symtab_of};
+ghost use Rattle.std.specs.Str.{bytes_eq};
+ghost use Rattle.elf_module.specs.Elf.{entry_of, field, symbol_in, symbol_of, symbols_from, symtab_of};
 ghost use Rattle.elf_module.specs.Refusals.{HasName, IsFirstBelow, LacksNameIn, Passes, SymbolsAre, Tries};
 
 use crate::fields::{u8_at, u16_at, u32_at, u64_at};
-use crate::names::{name_at, names_end};
-use crate::records::Symbol;
+use crate::names::{is_name_at, name_at, names_end};
+use crate::records::{Symbol, SymbolEntry};
 use crate::refused::ElfRefused;
 use crate::sections::Sections;
 
@@ -78,13 +79,53 @@ impl<'a> Symbols<'a> {
         requires { i < length self.now.entries.now / 24 }
         ensures { symbol_of result ≡ symbol_in self.now.names.now (drop (24 * i) self.now.entries.now) }
     {
-        let entry = &self.entries[SYMBOL_SIZE * i as usize..];
+        let entry = self.entry(i);
         Symbol {
-            name: name_at(self.names, u32_at(entry, 0) as usize),
+            name: name_at(self.names, self.name(i)),
+            info: entry.info,
+            shndx: entry.shndx,
+            value: entry.value,
+        }
+    }
+
+    /// Where the name of the symbol with a number below the count begins in the string table.
+    fn name(&self, i: u32) -> usize
+        requires { i < length self.now.entries.now / 24 }
+        ensures { result ≡ field 4 0 (drop (24 * i) self.now.entries.now) }
+    {
+        u32_at(&self.entries[SYMBOL_SIZE * i as usize..], 0) as usize
+    }
+
+    /// The symbol with a number below the count, without its name.
+    fn entry(&self, i: u32) -> SymbolEntry
+        requires { i < length self.now.entries.now / 24 }
+        ensures { result ≡ entry_of (symbol_in self.now.names.now (drop (24 * i) self.now.entries.now)) }
+    {
+        let entry = &self.entries[SYMBOL_SIZE * i as usize..];
+        SymbolEntry {
             info: u8_at(entry, 4),
             shndx: u16_at(entry, 6),
             value: u64_at(entry, 8),
         }
+    }
+
+    /// The symbol with a number, without its name.
+    pub(crate) fn get_entry(&self, i: u32) -> Option<SymbolEntry>
+        ensures { result ≡ option_map entry_of (slice_get (symbols_from self.now.entries.now self.now.names.now) i) }
+    {
+        if i < self.count() {
+            Some(self.entry(i))
+        } else {
+            None
+        }
+    }
+
+    /// Whether the symbol with a number below the count has this name.
+    pub(crate) fn is_named(&self, i: u32, name: &[u8]) -> bool
+        requires { i < length self.now.entries.now / 24 }
+        ensures { result ≡ bytes_eq (symbol_in self.now.names.now (drop (24 * i) self.now.entries.now)).name name.now }
+    {
+        is_name_at(self.names, self.name(i), name)
     }
 
     /// The symbol with a number.

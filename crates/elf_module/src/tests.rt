@@ -132,3 +132,82 @@ fn loads_the_first_section(rt: HostRuntime) {
         assert_eq!(rt; file.load(address), loaded, "at {at}");
     }
 }
+
+#[test]
+fn fields_are_read_without_names(rt: HostRuntime) {
+    let file = ElfFile::read(MODULE).expect(&rt, "a module");
+    for i in 0..9 {
+        let section = file.section(i).expect(&rt, "a section");
+        let header = file.section_header(i).expect(&rt, "a header");
+        assert_eq!(rt;
+            (header.index, header.kind, header.flags),
+            (section.index, section.kind, section.flags)
+        );
+        assert_eq!(rt;
+            (header.addr, header.size, header.link),
+            (section.addr, section.size, section.link)
+        );
+        assert_eq!(rt; header.content, section.content);
+    }
+    assert_eq!(rt; file.section_header(9), None);
+    let entry = file.symbol_entry(1).expect(&rt, "a symbol");
+    assert_eq!(rt;
+        (entry.info, entry.shndx, entry.value),
+        (0x12, 1, 0x40_1000)
+    );
+    assert_eq!(rt; file.symbol_entry(3), None);
+    assert_eq!(rt; file.byte_count(), 896);
+}
+
+#[test]
+fn names_are_compared_whole(rt: HostRuntime) {
+    let file = ElfFile::read(MODULE).expect(&rt, "a module");
+    let rows: [(&[u8], bool, bool); 6] = [
+        (b".text", true, false),
+        (b".tex", false, false),
+        (b".textx", false, false),
+        (b"f", false, true),
+        (b"", false, false),
+        (b"fj", false, false),
+    ];
+    for (name, section, symbol) in rows {
+        assert_eq!(rt; file.is_section_named(1, name), section);
+        assert_eq!(rt; file.is_symbol_named(1, name), symbol);
+    }
+    assert_eq!(rt; file.is_symbol_named(0, b""), true);
+}
+
+/// An empty section stands in the file too: its offset is at most the file's length.
+#[test]
+fn an_empty_section_stands_in_the_file(rt: HostRuntime) {
+    let rows = [(0x80, None), (0x81, Some(ElfRefused::Section(3)))];
+    for (low, why) in rows {
+        let mut bytes = changed(&rt, 0x219, 3);
+        *bytes.get_mut(0x218).expect(&rt, "a byte") = low;
+        assert_eq!(rt; ElfFile::read(&bytes).err(), why, "at {low}");
+    }
+}
+
+#[test]
+fn loads_sixteen_bytes(rt: HostRuntime) {
+    let rows = [
+        (0x1d2, 0x40, 0x40_1000),
+        (0x1d2, 0x40, 0x40_0ff8),
+        (0x1d2, 0x40, 0x40_1009),
+        (0x184, 8, 0x40_0ff1),
+        (0x184, 0, 0x40_1000),
+        (0x184, 8, u64::MAX - 4),
+    ];
+    for (at, byte, address) in rows {
+        let bytes = changed(&rt, at, byte);
+        let file = ElfFile::read(&bytes).expect(&rt, "a module");
+        let loaded = file.load_16(address);
+        for i in 0..16 {
+            assert_eq!(rt;
+                loaded.get(i),
+                Some(&file.load(address.wrapping_add(i as u64))),
+                "at {at}, {i}"
+            );
+        }
+    }
+}

@@ -1,14 +1,19 @@
 -- How many sections have the text's name.
-use Rattle.std.proofs.Common.{◌≡◌, ◌≢◌, ◌<◌, ◌≤◌, ◌+◌, ◌∙◌, ℕ, Bool, true, false, cond, if◌then◌else◌, List, [], ◌∷◌, length, take, Option, Some, None, sym, ap, refl, arith, inr}
+use Rattle.std.proofs.Common.{◌≡◌, ◌≢◌, ◌<◌, ◌≤◌, ◌+◌, ◌∙◌, ℕ, Bool, true, false, cond, if◌then◌else◌, List, [], ◌∷◌, length, take, Option, Some, None, option_map, sym, ap, refl, arith, inr}
 use Rattle.std.specs.List.{filter, find, slice_get}
 use Rattle.std.proofs.lemmas.List.Filters.{length-filter_more}
-use Rattle.std.proofs.lemmas.Option.{slice_get-get_or}
+use Rattle.std.proofs.lemmas.Option.{slice_get-get_or, same_Some, none-some}
 use Rattle.elf_module.specs.Elf.{Elf, SectionRecord}
 use Rattle.module_image.specs.declared.refused.Refused.TheVariants.{TextCount}
 use Rattle.module_image.specs.Entries.{is_text, text_sections}
 use Rattle.module_image.specs.Refusals.{IsRefusedFor}
 use Rattle.module_image.specs.Tables.{is_text_in}
 use Rattle.module_image.proofs.Passed.{passes_first}
+
+-- what the file tells of a section's name
+pub text_told : (o : Option SectionRecord) (told : Bool) → option_map is_text o ≡ Some told → told ≡ is_text_in o
+text_told None told is = absurd (none-some told is)
+text_told (Some s) told is = sym (same_Some (is_text s) told is)
 
 -- n of the first sections have the text's name
 pub record AreCounted (sections : List SectionRecord) (i count : ℕ) : Type 0 where

@@ -20,6 +20,7 @@ pub mod UnitLaws
 pub mod SweptOnce
 pub mod Joined
 pub mod Sound
+pub mod KeyBytes
 pub mod KeyNumbers
 pub mod TextLength
 pub mod Reached

@@ -1,13 +1,14 @@
 -- What symbols name, one after the other.
-use Rattle.std.proofs.Common.{◌≡◌, ◌<◌, ◌≤◌, ◌+◌, ◌^◌, ◌∙◌, ℕ, Bool, true, false, not, ◌==◌, nat_lt, List, [], ◌∷◌, ◌++◌, length, map, drop, Some, if◌then◌else◌, refl, sym, ap, arith, append_assoc}
+use Rattle.std.proofs.Common.{◌≡◌, ◌<◌, ◌≤◌, ◌+◌, ◌∙◌, ℕ, Bool, true, false, List, [], ◌∷◌, ◌++◌, length, map, drop, get_or, Option, Some, None, if◌then◌else◌, refl, sym, ap, subst, arith, append_assoc}
 use Rattle.std.specs.Prelude.{slice_get}
-use Rattle.std.specs.Str.{bytes_eq}
-use Rattle.std.proofs.lemmas.Bool.{and_parts, ltb-true}
 use Rattle.std.proofs.lemmas.List.{append-nil, at_drop_all, drop_more, map-append}
-use Rattle.std.proofs.lemmas.Option.{get_or_from_slice_get, slice_get_within}
-use Rattle.elf_module.specs.Elf.{SymbolRecord}
+use Rattle.std.proofs.lemmas.Option.{get_or_from_slice_get, slice_get-get_or, slice_get_within}
+use Rattle.elf_module.specs.Elf.{SymbolRecord, entry_of}
+use Rattle.elf_module.specs.declared.records.SymbolEntry.{SymbolEntry}
+use Rattle.module_image.specs.declared.naming.SymbolNames.{SymbolNames}
 use Rattle.module_image.specs.Keys.{place_in}
 use Rattle.module_image.specs.Names.{Named, value_of, is_function, functions_from, is_key, keys_from}
+use Rattle.module_image.specs.Naming.{AreNames, IsGiven, IsNamed, function_of, key_number, named_by, nameless}
 use Rattle.module_image.proofs.Named.{value_of-same}
 
 -- a symbol and those after it
@@ -56,29 +57,92 @@ module _ (names : List SymbolRecord → List Named) (split : (s : SymbolRecord) 
       ∙ ap (λ xs. old ++ xs) (sym (map-append value (names (s ∷ [])) (names (drop (i + 1) symbols))) ∙ ap (map value) (sym next))
       ∙ so_far
 
--- the numbers of keys are below the count
-keys_from-below : (first : ℕ) (keys : List ℕ) (symbols : List SymbolRecord) (q : List ℕ) (n : ℕ) → value_of q (keys_from first keys symbols) ≡ Some n → n < first + length keys
-keys_from-below first keys [] q n e = absurd (cc)
-keys_from-below first keys (s ∷ ss) q n e = step (is_key keys s) refl e (keys_from-below first keys ss q n)
+-- what one symbol names
+function_given : (index : ℕ) (s : SymbolRecord) → named_by s.name (function_of index s) ≡ functions_from index (s ∷ [])
+function_given index s = by (is_function index s)
   where
-    named : (b : Bool) → place_in s.value keys < length keys
-        → (if b then Some (first + place_in s.value keys) else value_of q (keys_from first keys ss)) ≡ Some n
-        → (value_of q (keys_from first keys ss) ≡ Some n → n < first + length keys) → n < first + length keys
-    named true below found rest = let same : first + place_in s.value keys ≡ n = cc in omega arith
-    named false below found rest = rest found
+    by : (b : Bool) → named_by s.name (if b then Some s.value else None) ≡ (if b then (s.name, s.value) ∷ [] else [])
+    by true = refl
+    by false = refl
 
-    step : (b : Bool) → is_key keys s ≡ b
-        → value_of q (if b then (s.name, first + place_in s.value keys) ∷ keys_from first keys ss else keys_from first keys ss) ≡ Some n
-        → (value_of q (keys_from first keys ss) ≡ Some n → n < first + length keys) → n < first + length keys
-    step true key found rest =
-        named (bytes_eq q s.name) (ltb-true (place_in s.value keys) (length keys) (and_parts (not (s.shndx == 0)) (nat_lt (place_in s.value keys) (length keys)) key).1) found rest
-    step false key found rest = rest found
+key_given : (first : ℕ) (keys : List ℕ) (s : SymbolRecord) → named_by s.name (key_number first keys s) ≡ keys_from first keys (s ∷ [])
+key_given first keys s = by (is_key keys s)
+  where
+    by : (b : Bool) → named_by s.name (if b then Some (first + place_in s.value keys) else None) ≡ (if b then (s.name, first + place_in s.value keys) ∷ [] else [])
+    by true = refl
+    by false = refl
 
--- once all symbols were looked at
-pub key_names-small : (first : ℕ) (keys : List ℕ) (symbols : List SymbolRecord) (found : List Named) (i : ℕ) → length symbols ≤ i → length keys ≤ 1024 → first ≤ 1024
-    → ((q : List ℕ) → value_of q (found ++ keys_from first keys (drop i symbols)) ≡ value_of q (keys_from first keys symbols))
-    → (q : List ℕ) (n : ℕ) → value_of q found ≡ Some n → n < 2 ^ 32
-key_names-small first keys symbols found i all few low same q n e =
-    let whole : value_of q found ≡ value_of q (found ++ keys_from first keys (drop i symbols)) =
-    ap (value_of q) (sym (append-nil found)) ∙ sym (at_drop_all (λ ss. value_of q (found ++ keys_from first keys ss)) symbols i all) in
-    omega (arith, keys_from-below first keys symbols q n (sym (same q) ∙ sym whole ∙ e))
+-- a name that stands for nothing changes nothing
+given_nothing : (name : List ℕ) (o : Option ℕ) (xs : List Named) → o ≡ None → xs ≡ xs ++ named_by name o
+given_nothing name o xs none = sym (ap (λ p. xs ++ named_by name p) none ∙ append-nil xs)
+
+pub nothing_named : (index : ℕ) (jumps calls : List ℕ) (names : SymbolNames) (s : SymbolRecord) (e : SymbolEntry) → entry_of s ≡ e
+    → function_of index (nameless e) ≡ None → key_number 0 jumps (nameless e) ≡ None → key_number (length jumps) calls (nameless e) ≡ None
+    → IsNamed index jumps calls names names s
+nothing_named index jumps calls names s e same no_function no_jump no_call =
+    let function : function_of index s ≡ None = ap (λ x. function_of index (nameless x)) same ∙ no_function in
+    let jump : key_number 0 jumps s ≡ None = ap (λ x. key_number 0 jumps (nameless x)) same ∙ no_jump in
+    let call : key_number (length jumps) calls s ≡ None = ap (λ x. key_number (length jumps) calls (nameless x)) same ∙ no_call in
+    record {
+      functions = λ q. ap (value_of q) (given_nothing s.name (function_of index s) names.functions function);
+      addresses = sym (ap (λ o. names.addresses.items ++ map (λ (n : Named). n.1) (named_by s.name o)) function ∙ append-nil names.addresses.items);
+      jump_keys = λ q. ap (value_of q) (given_nothing s.name (key_number 0 jumps s) names.jump_keys jump);
+      call_keys = λ q. ap (value_of q) (given_nothing s.name (key_number (length jumps) calls s) names.call_keys call);
+    }
+
+-- what was given is what the symbol names
+pub something_named : (index : ℕ) (jumps calls : List ℕ) (old new : SymbolNames) (s : SymbolRecord) (e : SymbolEntry) (name : List ℕ) (function jump_key call_key : Option ℕ)
+    → entry_of s ≡ e → name ≡ s.name → function ≡ function_of index (nameless e) → jump_key ≡ key_number 0 jumps (nameless e)
+    → call_key ≡ key_number (length jumps) calls (nameless e) → IsGiven name function jump_key call_key old new → IsNamed index jumps calls old new s
+something_named index jumps calls old new s e name function jump_key call_key same named is_function is_jump is_call given =
+    let f : function ≡ function_of index s = is_function ∙ ap (λ x. function_of index (nameless x)) (sym same) in
+    let j : jump_key ≡ key_number 0 jumps s = is_jump ∙ ap (λ x. key_number 0 jumps (nameless x)) (sym same) in
+    let k : call_key ≡ key_number (length jumps) calls s = is_call ∙ ap (λ x. key_number (length jumps) calls (nameless x)) (sym same) in
+    subst (λ n. IsGiven n (function_of index s) (key_number 0 jumps s) (key_number (length jumps) calls s) old new) named
+    (subst (λ o. IsGiven name o (key_number 0 jumps s) (key_number (length jumps) calls s) old new) f
+    (subst (λ o. IsGiven name function o (key_number (length jumps) calls s) old new) j
+    (subst (λ o. IsGiven name function jump_key o old new) k given)))
+
+-- what was found, with what the symbols that are left name, is all
+pub record AreNamesWith (index : ℕ) (jumps calls : List ℕ) (symbols : List SymbolRecord) (i : ℕ) (found : SymbolNames) : Type 0 where
+  pub functions : (q : List ℕ) → value_of q (found.functions ++ functions_from index (drop i symbols)) ≡ value_of q (functions_from index symbols)
+  pub addresses : found.addresses.items ++ map (λ (n : Named). n.1) (functions_from index (drop i symbols)) ≡ map (λ (n : Named). n.1) (functions_from index symbols)
+  pub jump_keys : (q : List ℕ) → value_of q (found.jump_keys ++ keys_from 0 jumps (drop i symbols)) ≡ value_of q (keys_from 0 jumps symbols)
+  pub call_keys : (q : List ℕ) → value_of q (found.call_keys ++ keys_from (length jumps) calls (drop i symbols)) ≡ value_of q (keys_from (length jumps) calls symbols)
+
+-- the symbol with a number below the count
+symbol_here : (symbols : List SymbolRecord) (i : ℕ) → i < length symbols → (s : SymbolRecord) × (slice_get symbols i ≡ Some s)
+symbol_here [] i below = absurd (omega (arith, below))
+symbol_here (s ∷ ss) i below = (get_or (s ∷ ss) i s, slice_get-get_or (s ∷ ss) i s below)
+
+-- so it is once one more was looked at
+pub one_symbol_more : (index : ℕ) (jumps calls : List ℕ) (symbols : List SymbolRecord) (i : ℕ) (old new : SymbolNames) → i < length symbols
+    → ((s : SymbolRecord) → slice_get symbols i ≡ Some s → IsNamed index jumps calls old new s)
+    → AreNamesWith index jumps calls symbols i old → AreNamesWith index jumps calls symbols (i + 1) new
+one_symbol_more index jumps calls symbols i old new below named so_far =
+    let symbol = symbol_here symbols i below in
+    let s = symbol.0 in
+    let given = named s symbol.1 in
+    let function = function_given index s in
+    let jump = key_given 0 jumps s in
+    let call = key_given (length jumps) calls s in
+    record {
+      functions = names_more (functions_from index) (functions_from-split index) symbols i s symbol.1 old.functions new.functions
+          (λ q. given.functions q ∙ ap (λ ns. value_of q (old.functions ++ ns)) function) so_far.functions;
+      addresses = values_more (functions_from index) (functions_from-split index) symbols i s symbol.1 old.addresses.items new.addresses.items
+          (given.addresses ∙ ap (λ ns. old.addresses.items ++ map (λ (n : Named). n.1) ns) function) so_far.addresses;
+      jump_keys = names_more (keys_from 0 jumps) (keys_from-split 0 jumps) symbols i s symbol.1 old.jump_keys new.jump_keys
+          (λ q. given.jump_keys q ∙ ap (λ ns. value_of q (old.jump_keys ++ ns)) jump) so_far.jump_keys;
+      call_keys = names_more (keys_from (length jumps) calls) (keys_from-split (length jumps) calls) symbols i s symbol.1 old.call_keys new.call_keys
+          (λ q. given.call_keys q ∙ ap (λ ns. value_of q (old.call_keys ++ ns)) call) so_far.call_keys;
+    }
+
+-- and once all were
+pub all_symbols : (index : ℕ) (jumps calls : List ℕ) (symbols : List SymbolRecord) (i : ℕ) (found : SymbolNames) → length symbols ≤ i
+    → AreNamesWith index jumps calls symbols i found → AreNames index jumps calls symbols found
+all_symbols index jumps calls symbols i found all so_far = record {
+  functions = λ q. ap (value_of q) (sym (append-nil found.functions)) ∙ sym (at_drop_all (λ ss. value_of q (found.functions ++ functions_from index ss)) symbols i all) ∙ so_far.functions q;
+  addresses = sym (append-nil found.addresses.items) ∙ sym (at_drop_all (λ ss. found.addresses.items ++ map (λ (n : Named). n.1) (functions_from index ss)) symbols i all) ∙ so_far.addresses;
+  jump_keys = λ q. ap (value_of q) (sym (append-nil found.jump_keys)) ∙ sym (at_drop_all (λ ss. value_of q (found.jump_keys ++ keys_from 0 jumps ss)) symbols i all) ∙ so_far.jump_keys q;
+  call_keys = λ q. ap (value_of q) (sym (append-nil found.call_keys)) ∙ sym (at_drop_all (λ ss. value_of q (found.call_keys ++ keys_from (length jumps) calls ss)) symbols i all) ∙ so_far.call_keys q;
+}

@@ -1,8 +1,7 @@
 -- What the fields of an accepted module mean.
-use Rattle.std.specs.Prelude.{◌≤◌, length}
+use Rattle.std.specs.Prelude.{◌≡◌, ◌≤◌, length}
 use Rattle.module_image.specs.declared.image.Image.TheInside.{Inside}
-use Rattle.module_image.specs.Module.{Module, layout_of}
-use Rattle.module_image.specs.Numbers.{AreNumbers}
+use Rattle.module_image.specs.Module.{Module, layout_of, tracer_of}
 use Rattle.module_image.specs.Sweeping.{AreMarks}
 use Rattle.module_image.specs.Text.{AreInside, AreApart}
 
@@ -24,5 +23,4 @@ pub record IsSound (i : Inside) : Type 0 where
   pub apart : AreApart i.sites.items
   pub marks : AreMarks (layout_of (module_of i)) i.marks.items
   pub few : length i.sites.items ≤ 1024
-  pub jump_numbers : AreNumbers i.jump_keys
-  pub call_numbers : AreNumbers i.call_keys
+  pub tracer : i.tracer ≡ tracer_of (module_of i)

@@ -3,9 +3,9 @@ pub mod Entries
 pub mod Tables
 pub mod Keys
 pub mod KeyList
+pub mod KeyStarts
 pub mod Names
 pub mod Naming
-pub mod Numbers
 pub mod Wants
 pub mod Early
 pub mod Sites

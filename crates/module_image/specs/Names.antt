@@ -12,7 +12,7 @@ abbrev pub Named : Type 0
 Named = List ℕ × ℕ
 
 -- what the first of these names stands for that are the one looked for
-abbrev pub value_of : List ℕ → List Named → Option ℕ
+abbrev pub value_of : {T : Type 0} → List ℕ → List (List ℕ × T) → Option T
 value_of name [] = None
 value_of name (n ∷ ns) = if bytes_eq name n.0 then Some n.1 else value_of name ns
 

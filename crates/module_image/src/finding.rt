@@ -5,9 +5,9 @@ ghost use Rattle.module_image.specs.Keys.{key_addresses, keys};
 ghost use Rattle.module_image.specs.Refusals.{Passes, Tries};
 
 use crate::key_list::KeyAddresses;
-use crate::key_starts::keys_of;
+use crate::key_starts::read_keys;
 use crate::listing::{entry_count, find_tables, listed};
-use crate::rows::{keys_outside, keys_state, site_count, sites_length, sites_outside};
+use crate::rows::{keys_state, site_count, sites_length, sites_outside};
 use crate::site_list::{overlap, site_list};
 use crate::text_section::find_text;
 use crate::{Key, Refused, Site, Text};
@@ -66,8 +66,7 @@ pub fn find_keys(
     ensures tried { Tries file.now 10 result }
     ensures found { IfOk result (λ found. found.items ≡ keys file.now) }
 {
-    let found = keys_of(alloc, file, &addresses.jumps, &addresses.calls)?;
-    keys_outside(file, &found)?;
+    let found = read_keys(alloc, file, addresses)?;
     keys_state(file, &found)?;
     Ok(found)
 }

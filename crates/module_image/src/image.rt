@@ -1,13 +1,11 @@
 //! Accepted modules.
 ghost use Rattle.std.specs.Prelude.{◌≡◌, ◌<◌, ◌^◌, length};
-ghost use Rattle.module_image.specs.Names.{value_of};
 ghost use Rattle.module_image.specs.Module.{is_trace_at, trace_at};
-ghost use Rattle.module_image.specs.Numbers.{AreNumbers};
 
 use crate::finding::{Found, find_keys};
 use crate::lookup::{plain_at, site_at};
 use crate::names::Names;
-use crate::naming::{find_functions, key_names};
+use crate::naming::SymbolNames;
 use crate::rows::{no_reach, tracer_missing};
 use crate::swept::Swept;
 use crate::{Key, KeyClass, Refused, Site, SiteKind, Unit};
@@ -31,9 +29,11 @@ pub struct Image {
     marks: Vec<Option<u32>>,
     sites: Vec<Site>,
     keys: Vec<Key>,
-    functions: Names,
-    jump_keys: Names,
-    call_keys: Names,
+    functions: Names<u64>,
+    jump_keys: Names<u32>,
+    call_keys: Names<u32>,
+    /// The address of the function that is called at traced sites.
+    tracer: Option<u64>,
 }
 
 impl Model for Image {
@@ -58,7 +58,8 @@ impl Image {
 
     /// Accepts the module of a file: finds its sites and keys, writes each site that holds one of its early forms
     /// to what it wants with the keys as the file has them, and sweeps the text. It takes time in O(n log n) of
-    /// entries and symbols, linear in the text, and a look through the sections for each byte of a key.
+    /// entries and symbols, linear in the text, and a look through the sections for each key. All names that it reads
+    /// have at most four times the file's bytes; past that it is out of memory.
     ///
     /// # Errors
     /// The first condition that holds, in the order of `Refused`, with its numbers; `NoMemory` may come at any place.
@@ -69,12 +70,10 @@ impl Image {
         let found = Found::of(alloc, file)?;
         let keys = find_keys(alloc, file, &found.addresses)?;
         no_reach(file, &found.sites)?;
-        let functions = find_functions(alloc, file, found.text.index)?;
-        tracer_missing(file, &found.sites, functions.names.get(TRACER_NAME))?;
-        let swept = Swept::of(alloc, file, &found, &keys, &functions.addresses)?;
-        let jump_keys = key_names(alloc, file, 0, &found.addresses.jumps)?;
-        let jump_count = found.addresses.jumps.len() as u32;
-        let call_keys = key_names(alloc, file, jump_count, &found.addresses.calls)?;
+        let names = SymbolNames::of(alloc, file, found.text.index, &found.addresses)?;
+        let tracer = names.functions.get(TRACER_NAME);
+        tracer_missing(file, &found.sites, tracer)?;
+        let swept = Swept::of(alloc, file, &found, &keys, &names.addresses)?;
         Ok(Image {
             base: found.text.base,
             text: swept.text,
@@ -82,9 +81,10 @@ impl Image {
             marks: swept.marks,
             sites: found.sites,
             keys,
-            functions: functions.names,
-            jump_keys,
-            call_keys,
+            functions: names.functions,
+            jump_keys: names.jump_keys,
+            call_keys: names.call_keys,
+            tracer,
         })
     }
 
@@ -138,8 +138,8 @@ impl Image {
         ensures { result ≡ value_of name.now (names_of self.now class) }
     {
         match class {
-            KeyClass::Jump => number_named(&self.jump_keys, name),
-            KeyClass::Call => number_named(&self.call_keys, name),
+            KeyClass::Jump => self.jump_keys.get(name),
+            KeyClass::Call => self.call_keys.get(name),
         }
     }
 
@@ -166,17 +166,8 @@ impl Image {
     pub fn tracer(&self) -> Option<u64>
         ensures { result ≡ tracer_of self.now }
     {
-        self.functions.get(TRACER_NAME)
+        self.tracer
     }
-}
-
-/// The key's number that a name stands for.
-fn number_named(names: &Names, name: &[u8]) -> Option<u32>
-    requires { AreNumbers names.now }
-    ensures { result ≡ value_of name.now names.now }
-{
-    let number = names.get(name)?;
-    Some(number as u32)
 }
 
 /// The number of the first trace site at an address.

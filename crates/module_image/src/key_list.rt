@@ -1,7 +1,9 @@
 //! The keys that a module's entries name, by their addresses.
-ghost use Rattle.std.specs.Prelude.{◌≡◌, ◌≤◌, ◌+◌, [], length, IfOk, IfErr, OnOk};
+ghost use Rattle.std.specs.Prelude.{◌≡◌, ◌≤◌, ◌<◌, ◌+◌, ◌++◌, ℕ, Some, [], length, map, slice_get, IfOk, IfErr, OnOk};
 ghost use Rattle.module_image.specs.Keys.{key_in, with_key, with_named, gathered, place_in, number_of};
 ghost use Rattle.module_image.specs.KeyList.{IsRising};
+ghost use Rattle.module_image.specs.declared.key.Key.{Key};
+ghost use Rattle.module_image.specs.declared.key.KeyClass.{KeyClass};
 ghost use Rattle.module_image.specs.declared.key.KeyClass.TheVariants.{Jump, Call};
 ghost use Rattle.module_image.specs.declared.refused.Refused.TheVariants.{NoMemory};
 
@@ -35,6 +37,27 @@ impl KeyAddresses {
         let jumps = addresses_of(alloc, list, KeyClass::Jump)?;
         let calls = addresses_of(alloc, list, KeyClass::Call)?;
         Ok(KeyAddresses { jumps, calls })
+    }
+
+    /// How many keys there are.
+    pub fn count(&self) -> u32
+        ensures { result ≡ length self.now.jumps.items + length self.now.calls.items }
+    {
+        (self.jumps.len() + self.calls.len()) as u32
+    }
+
+    /// The class and the address of the key with a number below the count.
+    pub fn key(&self, i: u32) -> (KeyClass, u64)
+        requires { i < length self.now.jumps.items + length self.now.calls.items }
+        ensures { (of : KeyClass → ℕ → Key) → slice_get (map (of Jump) self.now.jumps.items ++ map (of Call) self.now.calls.items) i ≡ Some (of result.0 result.1) }
+    {
+        let i = i as usize;
+        let jumps = self.jumps.len();
+        if i < jumps {
+            (KeyClass::Jump, self.jumps[i])
+        } else {
+            (KeyClass::Call, self.calls[i - jumps])
+        }
     }
 
     /// The number of a key: its place among all keys, of which those of jumps stand first.

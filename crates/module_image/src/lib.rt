@@ -16,6 +16,7 @@ mod lines;
 mod listing;
 mod lookup;
 mod marks;
+mod name_budget;
 mod names;
 mod naming;
 mod refused;

@@ -1,6 +1,6 @@
 //! Names and what they stand for.
 ghost use Rattle.std.specs.Prelude.{◌≡◌, ℕ, List, [], ◌∷◌, ◌++◌, None, IfErr, OnOk};
-ghost use Rattle.module_image.specs.Names.{Named, value_of};
+ghost use Rattle.module_image.specs.Names.{value_of};
 ghost use Rattle.module_image.specs.Naming.{named_in};
 ghost use Rattle.module_image.specs.declared.refused.Refused.TheVariants.{NoMemory};
 
@@ -11,19 +11,19 @@ use std::marker::Model;
 
 /// What names stand for: for each name the first thing that it was given to.
 #[derive(Drop)]
-pub struct Names {
-    values: IndexMap<Vec<u8>, u64>,
+pub struct Names<T> {
+    values: IndexMap<Vec<u8>, T>,
 }
 
-impl Model for Names {
-    ghost Value = { List Named };
+impl<T> Model for Names<T> {
+    ghost Value = { List (List ℕ × T) };
 
     ghost view = { λ names. named_in names.values.entries };
 }
 
-impl Names {
+impl<T: Copy + Drop> Names<T> {
     /// No names.
-    pub fn new(alloc: Global) -> Names
+    pub fn new(alloc: Global) -> Names<T>
         ensures { result ≡ [] }
     {
         Names {
@@ -32,7 +32,7 @@ impl Names {
     }
 
     /// What a name stands for. `None` exactly where it stands for nothing.
-    pub fn get(&self, name: &[u8]) -> Option<u64>
+    pub fn get(&self, name: &[u8]) -> Option<T>
         ensures { result ≡ value_of name.now self.now }
     {
         self.values.get(name).copied()
@@ -42,7 +42,7 @@ impl Names {
     ///
     /// # Errors
     /// Where there is no memory.
-    pub fn add(&mut self, alloc: Global, name: &[u8], value: u64) -> Result<(), Refused>
+    pub fn add(&mut self, alloc: Global, name: &[u8], value: T) -> Result<(), Refused>
         ensures names { OnOk result ((q : List ℕ) → value_of q self.new ≡ value_of q (self.old ++ (name.now, value) ∷ [])) }
         ensures failed { IfErr result (λ why. why ≡ NoMemory) }
     {
@@ -54,11 +54,11 @@ impl Names {
 }
 
 /// Puts a copy of a name that isn't there into a map.
-fn put_entry(
+fn put_entry<T: Copy + Drop>(
     alloc: Global,
-    values: &mut IndexMap<Vec<u8>, u64>,
+    values: &mut IndexMap<Vec<u8>, T>,
     name: &[u8],
-    value: u64,
+    value: T,
 ) -> Result<(), AllocError>
     requires { value_of name.now (named_in values.old.entries) ≡ None }
     ensures { OnOk result (named_in values.new.entries ≡ named_in values.old.entries ++ (name.now, value) ∷ []) }
@@ -77,7 +77,7 @@ mod tests {
     fn the_first_value_of_a_name_stays(rt: HostRuntime) -> Result<(), Fail> {
         let alloc = rt.alloc();
         let mut names = Names::new(alloc);
-        names.add(alloc, b"f", 1)?;
+        names.add(alloc, b"f", 1_u32)?;
         names.add(alloc, b"g", 2)?;
         names.add(alloc, b"f", 3)?;
         names.add(alloc, b"", 4)?;

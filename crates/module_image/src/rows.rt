@@ -2,7 +2,7 @@
 //! use for `file`, the contract speaks of it.
 ghost use Rattle.std.specs.Prelude.{◌≡◌, ◌≤◌, ◌<◌, ◌+◌, ◌^◌, ◌↔◌, length, IsTrue, OnOk};
 ghost use Rattle.module_image.specs.Entries.{entries, length_at};
-ghost use Rattle.module_image.specs.Keys.{keys, IsUnloaded};
+ghost use Rattle.module_image.specs.Keys.{keys};
 ghost use Rattle.module_image.specs.Names.{tracer};
 ghost use Rattle.module_image.specs.Refusals.{HasBadState, IsBadLength, IsOutOfReach, IsOutsideOf, IsTrace, Passes, Tries, room_of};
 ghost use Rattle.module_image.specs.Sites.{sites};
@@ -14,9 +14,6 @@ use insn_forms::Form;
 
 /// How many entries the tables have at most.
 const MOST_SITES: u64 = 1024;
-
-/// How many bytes a key has.
-const KEY_BYTES: u64 = 16;
 
 /// The greatest count of a static key, as a signed number of 32 bits.
 const MOST_COUNT: u64 = 0x7fff_ffff;
@@ -68,23 +65,6 @@ pub fn sites_length(file: &ElfFile<'_>, text: &Text<'_>, list: &[Entry]) -> Resu
     for entry in list {
         if has_bad_length(text, entry) {
             return Err(Refused::SiteLength(entry.at));
-        }
-    }
-    Ok(())
-}
-
-/// Looks for a key of which a byte isn't loaded.
-///
-/// # Errors
-/// `KeyOutside` at the first.
-pub fn keys_outside(file: &ElfFile<'_>, found: &[Key]) -> Result<(), Refused>
-    requires passed { Passes file.now 8 }
-    requires keys { found.now ≡ keys file.now }
-    ensures { Tries file.now 9 result }
-{
-    for key in found {
-        if is_unloaded(file, key.at) {
-            return Err(Refused::KeyOutside(key.at));
         }
     }
     Ok(())
@@ -180,18 +160,6 @@ fn has_bad_length(text: &Text<'_>, entry: &Entry) -> bool
         EntryKind::Jump { .. } => !matches!(text.length_at(entry.at), 2 | 5),
         EntryKind::Call { .. } | EntryKind::Tail { .. } | EntryKind::Trace => false,
     }
-}
-
-/// Whether one of the bytes of a key at an address isn't loaded. Addresses wrap modulo 2^64.
-fn is_unloaded(file: &ElfFile<'_>, at: u64) -> bool
-    ensures { IsTrue result ↔ IsUnloaded file.now.sections at }
-{
-    for i in 0..KEY_BYTES {
-        if file.load(at.wrapping_add(i)).is_none() {
-            return true;
-        }
-    }
-    false
 }
 
 /// Whether a key is a static key with a negative count, as a signed number of 32 bits.

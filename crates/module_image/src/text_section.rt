@@ -57,14 +57,12 @@ fn text_count(file: &ElfFile<'_>) -> u64
     count
 }
 
-/// Whether a section with this index is there and has the text's name.
+/// Whether the section with an index below the count has the text's name.
 fn is_text(file: &ElfFile<'_>, i: u16) -> bool
+    requires { i < length file.now.sections }
     ensures { result ≡ is_text_in (slice_get file.now.sections i) }
 {
-    match file.section(i) {
-        Some(section) => section.name == TEXT_NAME,
-        None => false,
-    }
+    file.is_section_named(i, TEXT_NAME)
 }
 
 /// The text in the section that holds it.

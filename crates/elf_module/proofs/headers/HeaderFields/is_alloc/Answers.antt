@@ -1,6 +1,6 @@
 use Rattle.std.proofs.Common.{◌≡◌, ◌<◌, ◌*◌, ◌/◌, ◌%◌, ◌==◌, ℕ, zero, suc, not, refl, arith}
 use Rattle.std.proofs.lemmas.Nat.Bits.{and_pow}
-use Rattle.elf_module.proofs.headers.SectionHeader.is_alloc.Goals as goal
+use Rattle.elf_module.proofs.headers.HeaderFields.is_alloc.Goals as goal
 
 -- the second bit, read by a mask, is set exactly where it is 1
 bit_set : (bit masked : ℕ) → bit < 2 → masked ≡ bit * 2 → not (masked == 0) ≡ (bit == 1)
