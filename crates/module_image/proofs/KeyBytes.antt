@@ -1,8 +1,8 @@
 -- What a key's bytes say, and the keys that were read so far.
-use Rattle.std.proofs.Common.{◌≡◌, ◌<◌, ◌≤◌, ◌+◌, ◌-◌, ◌∙◌, ℕ, zero, suc, List, [], ◌∷◌, ◌++◌, length, map, take, get_or, Option, Some, None, refl, sym, ap, subst, arith, inl, inr}
+use Rattle.std.proofs.Common.{◌≡◌, ◌<◌, ◌≤◌, ◌+◌, ◌∙◌, ℕ, List, [], ◌∷◌, ◌++◌, length, map, take, get_or, Option, Some, None, refl, sym, ap, subst, arith, length-append, inl, inr}
 use Rattle.std.specs.List.{slice_get}
 use Rattle.std.proofs.lemmas.Bool.{cases_lt}
-use Rattle.std.proofs.lemmas.List.{take_more}
+use Rattle.std.proofs.lemmas.List.{length-map, take_more}
 use Rattle.std.proofs.lemmas.List.FromFn.{get_or-map-range_with_len}
 use Rattle.std.proofs.lemmas.Option.{get_or_from_slice_get, same_Some, slice_get_within}
 use Rattle.elf_module.specs.Elf.{Elf, SectionRecord, loaded_from}
@@ -41,32 +41,19 @@ start_same sections Call at = refl
 pub started : (sections : List SectionRecord) (class : KeyClass) (at start : ℕ) (bytes : List (Option ℕ)) → bytes ≡ loaded_from sections 16 at → start ≡ start_in class bytes → start ≡ start_of sections class at
 started sections class at start bytes are is = is ∙ ap (start_in class) are ∙ start_same sections class at
 
--- the key with a number, among those of two classes
-pub first_at : (of : ℕ → Key) (xs : List ℕ) (rest : List Key) (i : ℕ) → i < length xs → slice_get (map of xs ++ rest) i ≡ Some (of (get_or xs i 0))
-first_at of [] rest i below = absurd (omega (arith, below))
-first_at of (x ∷ xs) rest zero below = refl
-first_at of (x ∷ xs) rest (suc i) below = first_at of xs rest i (omega (arith, below))
-
-only_at : (of : ℕ → Key) (xs : List ℕ) (i : ℕ) → i < length xs → slice_get (map of xs) i ≡ Some (of (get_or xs i 0))
-only_at of [] i below = absurd (omega (arith, below))
-only_at of (x ∷ xs) zero below = refl
-only_at of (x ∷ xs) (suc i) below = only_at of xs i (omega (arith, below))
-
-later_at : (of : ℕ → Key) (xs : List ℕ) (rest : List Key) (i : ℕ) → slice_get (map of xs ++ rest) (length xs + i) ≡ slice_get rest i
-later_at of [] rest i = (let same : 0 + i ≡ i = omega arith in ap (slice_get rest) same)
-later_at of (x ∷ xs) rest i = (let more : length (x ∷ xs) + i ≡ suc (length xs + i) = omega arith in rw more (later_at of xs rest i))
-
-pub second_at : (of by : ℕ → Key) (xs ys : List ℕ) (i : ℕ) → length xs ≤ i → i < length xs + length ys → slice_get (map of xs ++ map by ys) i ≡ Some (by (get_or ys (i - length xs) 0))
-second_at of by xs ys i from below =
-    let here : i ≡ length xs + (i - length xs) = omega arith in
-    ap (slice_get (map of xs ++ map by ys)) here ∙ later_at of xs (map by ys) (i - length xs) ∙ only_at by ys (i - length xs) (omega arith)
-
--- it is that of the file
+-- the key with a number is that of the file
 pub key_here : (elf : Elf) (jumps calls : List ℕ) (i : ℕ) (k : Key) → jumps ≡ key_addresses elf Jump → calls ≡ key_addresses elf Call
     → slice_get (map (key_of elf.sections Jump) jumps ++ map (key_of elf.sections Call) calls) i ≡ Some k → slice_get (keys elf) i ≡ Some k
 key_here elf jumps calls i k jumps_are calls_are here =
     ap (λ ks. slice_get (map (key_of elf.sections Jump) ks ++ map (key_of elf.sections Call) (key_addresses elf Call)) i) (sym jumps_are)
     ∙ ap (λ ks. slice_get (map (key_of elf.sections Jump) jumps ++ map (key_of elf.sections Call) ks) i) (sym calls_are) ∙ here
+
+-- how many there are
+pub keys_count : (elf : Elf) → length (keys elf) ≡ length (key_addresses elf Jump) + length (key_addresses elf Call)
+keys_count elf =
+    length-append (map (key_of elf.sections Jump) (key_addresses elf Jump)) (map (key_of elf.sections Call) (key_addresses elf Call))
+    ∙ ap (λ n. n + length (map (key_of elf.sections Call) (key_addresses elf Call))) (length-map (key_addresses elf Jump) (key_of elf.sections Jump))
+    ∙ ap (λ n. length (key_addresses elf Jump) + n) (length-map (key_addresses elf Call) (key_of elf.sections Call))
 
 -- one more key was read, and has all its bytes
 pub read_more : (all found new : List Key) (i : ℕ) (k : Key) → slice_get all i ≡ Some k → found ≡ take i all → new ≡ found ++ k ∷ [] → new ≡ take (i + 1) all

@@ -8,7 +8,8 @@ use Rattle.elf_module.specs.declared.records.SymbolEntry.{SymbolEntry}
 use Rattle.module_image.specs.declared.naming.SymbolNames.{SymbolNames}
 use Rattle.module_image.specs.Keys.{place_in}
 use Rattle.module_image.specs.Names.{Named, value_of, is_function, functions_from, is_key, keys_from}
-use Rattle.module_image.specs.Naming.{AreNames, IsGiven, IsNamed, function_of, key_number, named_by, nameless}
+use Rattle.module_image.specs.Naming.{named_by}
+use Rattle.module_image.specs.SymbolNames.{AreNames, IsGiven, IsNamed, function_of, key_number, nameless}
 use Rattle.module_image.proofs.Named.{value_of-same}
 
 -- a symbol and those after it

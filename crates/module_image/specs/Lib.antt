@@ -6,6 +6,7 @@ pub mod KeyList
 pub mod KeyStarts
 pub mod Names
 pub mod Naming
+pub mod SymbolNames
 pub mod Wants
 pub mod Early
 pub mod Sites

@@ -18,6 +18,7 @@ const NAME_COST: u64 = 96;
 
 /// How much may still be spent on names. Symbols may share names, and each may run through the whole string table:
 /// with no budget a small file would keep the program busy for hours, and take more memory than there is.
+#[derive(Drop)]
 pub struct NameBudget {
     left: u64,
 }

@@ -4,7 +4,7 @@ ghost use Rattle.std.specs.Option.{option_to_list};
 ghost use Rattle.elf_module.specs.Elf.{SymbolRecord, entry_of, symbol_of};
 ghost use Rattle.module_image.specs.KeyList.{IsRising};
 ghost use Rattle.module_image.specs.Names.{is_function};
-ghost use Rattle.module_image.specs.Naming.{AreNames, IsGiven, IsNamed, function_of, key_number, nameless};
+ghost use Rattle.module_image.specs.SymbolNames.{AreNames, IsGiven, IsNamed, function_of, key_number, nameless};
 ghost use Rattle.module_image.specs.declared.refused.Refused.TheVariants.{NoMemory};
 
 use crate::Refused;
@@ -114,6 +114,7 @@ impl SymbolNames {
 }
 
 /// What a symbol names: a function by its address, keys by their numbers.
+#[derive(Clone, Copy)]
 struct Target {
     function: Option<u64>,
     jump_key: Option<u32>,

@@ -6,7 +6,7 @@ use Rattle.module_image.proofs.Named.{named_in-insert_entry}
 use Rattle.module_image.proofs.names.put_entry.Goals as goal
 
 pub returns : goal.returns
-returns c =
+returns g c =
     let old = c.args.values.now.entries in
     let name = c.in_ok-name.name in
     ap named_in c.in_ok-insert.ensures.entries

@@ -6,9 +6,9 @@ use Rattle.module_image.specs.Text.{AreInside}
 use Rattle.module_image.proofs.Sound.{found_aims, found_marks}
 use Rattle.module_image.proofs.image.Image.accept.Goals as goal
 
-pub of-requires-2-clause-functions : goal.of-requires-2-clause-functions
-of-requires-2-clause-functions c =
-    found_aims c.args.file.now c.in_ok-found.found.text.index c.deref-4.result.now c.in_ok-found.ensures.found.is_text.index (c.deref-4.ensures.value ∙ c.in_ok-functions.ensures.addresses)
+pub of-requires-3-clause-functions : goal.of-requires-3-clause-functions
+of-requires-3-clause-functions c =
+    found_aims c.args.file.now c.in_ok-found.found.text.index c.deref-3.result.now c.in_ok-found.ensures.found.is_text.index (c.deref-3.ensures.value ∙ c.in_ok-names.ensures.names.addresses)
 
 pub invariant_of-result : goal.invariant_of-result
 invariant_of-result c =
@@ -26,6 +26,5 @@ invariant_of-result c =
       apart = found.apart;
       marks = found_marks c.args.file.now at bytes list c.in_ok-swept.swept.marks.items same swept.marks;
       few = found.few;
-      jump_numbers = c.in_ok-jump_keys.ensures.small;
-      call_numbers = c.in_ok-call_keys.ensures.small;
+      tracer = c.get-tracer.ensures;
     }

@@ -5,5 +5,5 @@ use Rattle.module_image.proofs.Named.{value_of-named_in}
 use Rattle.module_image.proofs.names.Names.get.Goals as goal
 
 pub returns : goal.returns
-returns c =
+returns g c =
     c.copied.ensures ∙ c.get.ensures.value ∙ value_of-named_in c.args.name.now c.self.inside.values.entries ∙ ap (value_of c.args.name.now) c.self.view_is
