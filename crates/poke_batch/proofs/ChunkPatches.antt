@@ -1,5 +1,5 @@
 -- The patches of a chunk, and what is due in it.
-use Rattle.std.proofs.Common.{◌≡◌, ◌+◌, ◌-◌, ◌^◌, ◌<◌, ◌≤◌, ℕ, zero, suc, Bool, true, false, if◌then◌else◌, nat_lt, List, [], ◌∷◌, length, map, min, drop, take, get_or, All, AllPairs, Fits, w8, refl, ap, sym, ◌∙◌, subst, arith, add-zero, length-drop}
+use Rattle.std.proofs.Common.{◌≡◌, ◌+◌, ◌-◌, ◌^◌, ◌<◌, ◌≤◌, ℕ, zero, suc, Bool, true, false, if◌then◌else◌, nat_lt, List, [], ◌∷◌, length, map, min, drop, take, get_or, All, AllPairs, ap, sym, ◌∙◌, subst, arith, add-zero, length-drop}
 use Rattle.std.proofs.lemmas.Bool.{le-ltb, lt-ltb}
 use Rattle.std.proofs.lemmas.List.{drop-map, get_or-drop, get_or-map, get_or-take, length-map, length-take, take-map, take_all, take_min}
 use Rattle.insn_forms.specs.declared.forms.Change.{Change}
@@ -13,7 +13,6 @@ use Rattle.poke_batch.specs.Inside.{change_of, chunk_at, due_in}
 use Rattle.poke_batch.specs.Patch.{IsSpelt}
 use Rattle.poke_batch.specs.Poke.{spelled}
 use Rattle.poke_batch.specs.Stage.{IsInside, after_due, site_size, tail_after}
-use Rattle.poke_batch.proofs.Patches.{two-le-size}
 use Rattle.poke_batch.proofs.Stages.{IsWhole, byte_due, first_due, site_size-is, site_size-most, trap_due}
 
 -- the changes of a chunk of patches are the chunk of the changes

@@ -1,5 +1,5 @@
 -- The first clash of some changes, one change after the other.
-use Rattle.std.proofs.Common.{◌≡◌, ◌+◌, ◌<◌, ℕ, zero, suc, Bool, true, false, not, List, [], ◌∷◌, ◌++◌, length, map, take, drop, get_or, find, Option, Some, None, All, refl, ap, sym, ◌∙◌, subst, add-one, arith, drop-cons, take-append-drop, take-suc}
+use Rattle.std.proofs.Common.{◌≡◌, ◌+◌, ◌<◌, ℕ, zero, suc, true, not, List, [], ◌∷◌, ◌++◌, length, map, take, drop, get_or, Option, None, All, refl, ap, sym, ◌∙◌, subst, add-one, arith, drop-cons, take-append-drop, take-suc}
 use Rattle.std.proofs.lemmas.List.{map-append}
 use Rattle.std.proofs.lemmas.List.Elements.{All-append}
 use Rattle.std.proofs.lemmas.List.Folds.{find-append}

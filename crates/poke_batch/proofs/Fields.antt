@@ -1,22 +1,26 @@
 -- What the fields of a batch say of its open update.
-use Rattle.std.proofs.Common.{◌≡◌, ◌≢◌, ◌<◌, ◌≤◌, ℕ, Bool, true, false, if◌then◌else◌, List, [], length, map, drop, take, Option, Some, None, IfSome, All, AllPairs, refl, ap, sym, ◌∙◌, subst}
+use Rattle.std.proofs.Common.{◌≡◌, ◌<◌, ◌≤◌, ℕ, Bool, true, false, if◌then◌else◌, List, length, map, drop, take, set, replicate, Option, Some, None, IfSome, All, AllPairs, refl, ap, sym, ◌∙◌, subst, arith}
+use Rattle.std.specs.List.{list_all}
+use Rattle.std.proofs.lemmas.List.{length-map}
 use Rattle.insn_forms.specs.declared.forms.Change.{Change}
 use Rattle.insn_forms.specs.declared.forms.Form.{Form}
 use Rattle.poke_batch.specs.declared.batch.Due.{Due}
-use Rattle.poke_batch.specs.declared.batch.Due.TheVariants.{Idle as NoneDue}
+use Rattle.poke_batch.specs.declared.batch.Due.TheVariants.{Idle as NoneDue, Wait}
 use Rattle.poke_batch.specs.declared.patch.Patch.{Patch}
 use Rattle.poke_batch.specs.declared.stage.Progress.{Progress}
 use Rattle.poke_batch.specs.declared.stage.Stage.{Stage}
 use Rattle.poke_batch.specs.declared.stage.Stage.TheVariants.{Idle, Trap, Tail, First, Sync, Return}
-use Rattle.poke_batch.specs.Inside.{change_of, chunk_at, due_in, later_at, left_at, walk_at, walk_in}
+use Rattle.poke_batch.specs.Clash.{CanPoke}
+use Rattle.poke_batch.specs.Inside.{change_of, chunk_at, due_in, later_at, walk_at, walk_in}
 use Rattle.poke_batch.specs.Patch.{IsSpelt}
-use Rattle.poke_batch.specs.Stage.{IsInside, after_due, is_idle, is_requested}
+use Rattle.poke_batch.specs.Stage.{IsInside, after_due, after_sync, is_idle, is_requested}
 use Rattle.poke_batch.specs.Underway.{AreApart, IsUnderway}
-use Rattle.poke_batch.specs.Walk.{Walk, due_at, due_of, moved, new_form, open_form}
+use Rattle.poke_batch.specs.Walk.{Walk, due_at, due_of, moved, new_form, nobody, open_form, opened, taken}
 use Rattle.poke_batch.proofs.ChunkPatches.{chunk-all, chunk-map, chunk-pairs, whole_of}
 use Rattle.poke_batch.proofs.Finding.{ascending}
-use Rattle.poke_batch.proofs.Progresses.{progress_moves}
+use Rattle.poke_batch.proofs.Progresses.{Sits, chunk-some, closed_after_due, opens, progress_moves, progress_takes_last, sync_sits, waits_open}
 use Rattle.poke_batch.proofs.Stages.{IsWhole}
+use Rattle.poke_batch.proofs.Underways.{opened_underway, step_underway}
 
 -- the changes of the chunk that the code takes from the patches
 pub chunk_of : (from : ℕ) (patches read chunk : List Patch) → read ≡ patches → chunk ≡ take 256 (drop from read) → map change_of chunk ≡ chunk_at from (map change_of patches)
@@ -97,9 +101,50 @@ after_due_unasked chunk (Sync round requested) unasked = absurd (cc)
 after_due_unasked chunk Return unasked = refl
 
 -- the update after a step
-pub step_is : (from : ℕ) (stage next : Stage) (patches : List Patch) (took : List Bool) (chunk : List Change) → IsInside (chunk_at from (map change_of patches)) stage → All IsSpelt patches → next ≡ after_due chunk stage → chunk ≡ chunk_at from (map change_of patches)
+pub step_is : (from : ℕ) (stage next : Stage) (patches : List Patch) (took : List Bool) → IsInside (chunk_at from (map change_of patches)) stage → All IsSpelt patches → next ≡ after_due (chunk_at from (map change_of patches)) stage
     → IfSome (walk_at (record { from = from; stage = stage }) (map change_of patches) took) (λ walk. walk_at (record { from = from; stage = next }) (map change_of patches) took ≡ moved walk)
-step_is from stage next patches took chunk inside spelt is chunk_is =
-    let same : next ≡ after_due (chunk_at from (map change_of patches)) stage = is ∙ ap (λ (cs : List Change). after_due cs stage) chunk_is in
-    subst (λ (s : Stage). IfSome (walk_at (record { from = from; stage = stage }) (map change_of patches) took) (λ walk. walk_at (record { from = from; stage = s }) (map change_of patches) took ≡ moved walk)) (sym same)
+step_is from stage next patches took inside spelt is =
+    subst (λ (s : Stage). IfSome (walk_at (record { from = from; stage = stage }) (map change_of patches) took) (λ walk. walk_at (record { from = from; stage = s }) (map change_of patches) took ≡ moved walk)) (sym is)
     (progress_moves from stage (map change_of patches) took inside (chunk_whole from patches spelt))
+
+-- what holds of it
+pub step_underway_of : (cpus from : ℕ) (stage next : Stage) (changes : List Change) (took : List Bool) → next ≡ after_due (chunk_at from changes) stage
+    → IfSome (walk_at (record { from = from; stage = stage }) changes took) (λ walk. walk_at (record { from = from; stage = next }) changes took ≡ moved walk)
+    → IfSome (walk_at (record { from = from; stage = stage }) changes took) (IsUnderway cpus) → IfSome (walk_at (record { from = from; stage = next }) changes took) (IsUnderway cpus)
+step_underway_of cpus from stage next changes took is step underway =
+    step_underway cpus (walk_at (record { from = from; stage = stage }) changes took) (walk_at (record { from = from; stage = next }) changes took) step underway
+    (λ closed. ap (λ (s : Stage). walk_at (record { from = from; stage = s }) changes took) is ∙ closed_after_due from stage changes took closed)
+
+-- the update after the last acknowledgement, and after another
+pub last_is : (from n : ℕ) (stage : Stage) (next : Progress) (changes : List Change) (acks : List Bool) (cpus cpu : ℕ) → cpus ≤ 16 → length acks ≡ 16 → cpu < cpus → due_of (walk_at (record { from = from; stage = stage }) changes (take cpus acks)) ≡ Wait → list_all (λ flag. flag) (take cpus (set acks cpu true)) ≡ true → next ≡ after_sync n from stage → n ≡ length changes
+    → IfSome (walk_at (record { from = from; stage = stage }) changes (take cpus acks)) (λ walk. walk_at next changes (take cpus (replicate 16 false)) ≡ Some (taken cpu walk))
+last_is from n stage next changes acks cpus cpu most long lt waits all is n_is =
+    subst (λ (p : Progress). IfSome (walk_at (record { from = from; stage = stage }) changes (take cpus acks)) (λ walk. walk_at p changes (take cpus (replicate 16 false)) ≡ Some (taken cpu walk))) (sym (is ∙ ap (λ sites. after_sync sites from stage) n_is))
+    (progress_takes_last from stage changes acks cpus cpu most long lt waits all)
+
+-- where it stands then
+pub passed_sits : (from n : ℕ) (stage : Stage) (next : Progress) (changes : List Change) (took : List Bool) → (is_idle stage ≡ false → from < length changes) → IsInside (chunk_at from changes) stage → due_of (walk_at (record { from = from; stage = stage }) changes took) ≡ Wait → next ≡ after_sync n from stage → n ≡ length changes → Sits changes next
+passed_sits from n stage next changes took within inside waits is n_is =
+    subst (λ (p : Progress). Sits changes p) (sym (is ∙ ap (λ sites. after_sync sites from stage) n_is))
+    (sync_sits from stage changes (within (waits_open from stage changes took waits)) inside)
+
+-- the update that is opened
+pub opened_is : (cpus : ℕ) (made changes : List Change) (took : List Bool) → made ≡ changes → took ≡ nobody cpus → 0 < length changes → walk_at (record { from = 0; stage = Trap 0 }) made took ≡ opened cpus changes
+opened_is cpus made changes took is nobody_is some =
+    ap (λ (cs : List Change). walk_at (record { from = 0; stage = Trap 0 }) cs took) is
+    ∙ ap (λ flags. walk_at (record { from = 0; stage = Trap 0 }) changes flags) nobody_is ∙ opens changes cpus some
+
+-- what holds of it
+pub opened_sound : (cpus : ℕ) (held : ℕ → Option ℕ) (made changes : List Change) (took : List Bool) → walk_at (record { from = 0; stage = Trap 0 }) made took ≡ opened cpus changes → 1 ≤ cpus → cpus ≤ 16 → 0 < length changes → CanPoke held changes → IfSome (walk_at (record { from = 0; stage = Trap 0 }) made took) (IsUnderway cpus)
+opened_sound cpus held made changes took is some_cpus most_cpus some can =
+    subst (λ (update : Option Walk). IfSome update (IsUnderway cpus)) (sym is) (opened_underway cpus held changes some_cpus most_cpus some can)
+
+-- where it stands
+pub opened_within : (patches : List Patch) (changes : List Change) → map change_of patches ≡ changes → 0 < length changes → 0 < length patches
+opened_within patches changes is some =
+    let same : length (map change_of patches) ≡ length changes = ap length is in
+    omega (arith, length-map patches change_of)
+
+pub opened_inside : (patches : List Patch) (changes : List Change) → map change_of patches ≡ changes → 0 < length changes → IsInside (chunk_at 0 (map change_of patches)) (Trap 0)
+opened_inside patches changes is some =
+    chunk-some 0 (map change_of patches) (let same : length (map change_of patches) ≡ length changes = ap length is in omega arith)

@@ -1,20 +1,17 @@
 -- The search for a site among those of a chunk.
-use Rattle.std.proofs.Common.{◌≡◌, ◌≢◌, ◌+◌, ◌<◌, ◌≤◌, ℕ, zero, suc, Bool, true, false, if◌then◌else◌, nat_lt, ◌==◌, List, [], ◌∷◌, length, map, drop, take, get_or, Option, Some, None, Result, Ok, Err, All, AllPairs, Less, Equal, Greater, refl, ap, sym, ◌∙◌, subst, arith, length-drop, le_of_eq, tests}
-use Rattle.std.specs.List.Sorted.{IsBinarySearchResult, IsNonDecreasingBy, IsSearchInRange}
+use Rattle.std.proofs.Common.{◌≡◌, ◌≢◌, ◌+◌, ◌<◌, ◌≤◌, ℕ, zero, suc, Bool, true, false, if◌then◌else◌, nat_lt, ◌==◌, List, [], ◌∷◌, length, map, get_or, Some, None, Result, Ok, Err, All, AllPairs, Less, Equal, Greater, refl, ap, sym, ◌∙◌, subst, arith, le_of_eq, tests}
+use Rattle.std.specs.List.Sorted.{IsBinarySearchResult, IsSearchInRange}
 use Rattle.std.specs.Ordering.{nat_cmp, ordering_index}
 use Rattle.std.proofs.lemmas.Bool.{eq-eqb, ltb-false, ltb-true, ne_eqb}
 use Rattle.std.proofs.lemmas.Cmp.{ranked}
-use Rattle.std.proofs.lemmas.List.{drop-map, get_or-drop, get_or-map, get_or-take, length-map, length-take, take-map}
+use Rattle.std.proofs.lemmas.List.{get_or-map, length-map}
 use Rattle.insn_forms.specs.declared.forms.Change.{Change}
-use Rattle.insn_forms.specs.declared.forms.Form.{Form}
 use Rattle.insn_forms.specs.Spelling.{size}
 use Rattle.poke_batch.specs.declared.patch.Patch.{Patch}
-use Rattle.poke_batch.specs.Inside.{change_of, chunk_at, walk_at}
-use Rattle.poke_batch.specs.Patch.{IsSpelt}
-use Rattle.poke_batch.specs.Underway.{AreApart, IsUnderway}
+use Rattle.poke_batch.specs.Inside.{change_of}
+use Rattle.poke_batch.specs.Underway.{AreApart}
 use Rattle.poke_batch.specs.Walk.{new_form}
 use Rattle.poke_batch.proofs.Patches.{two-le-size}
-use Rattle.poke_batch.proofs.Stages.{IsWhole}
 
 -- sites that are apart ascend
 pub ascending : (patches : List Patch) → AreApart (map change_of patches) → AllPairs (λ (p q : Patch). p.change.at < q.change.at) patches

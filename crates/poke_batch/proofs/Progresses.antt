@@ -1,6 +1,5 @@
 -- How far an update comes by a synchronisation of all processors.
-use Rattle.std.proofs.Common.{◌≡◌, ◌≢◌, ◌+◌, ◌<◌, ◌≤◌, ℕ, zero, suc, Bool, true, false, if◌then◌else◌, nat_lt, List, [], ◌∷◌, ◌++◌, length, map, drop, take, set, replicate, get_or, Option, Some, None, IfSome, All, refl, ap, sym, ◌∙◌, subst, arith, length-drop, drop-drop}
-use Rattle.std.specs.Bool.{⊤}
+use Rattle.std.proofs.Common.{◌≡◌, ◌+◌, ◌<◌, ◌≤◌, ℕ, Bool, true, false, if◌then◌else◌, nat_lt, List, [], ◌∷◌, ◌++◌, length, map, drop, take, set, replicate, Option, Some, None, IfSome, All, refl, ap, sym, ◌∙◌, arith, length-drop, drop-drop}
 use Rattle.std.specs.List.{list_all}
 use Rattle.std.proofs.Math.ListN.{drop_of_length-le}
 use Rattle.std.proofs.Math.Seq.{take-set-lt}
@@ -15,12 +14,12 @@ use Rattle.poke_batch.specs.declared.stage.Round.TheVariants.{Traps, Tails, Firs
 use Rattle.poke_batch.specs.declared.stage.Stage.{Stage}
 use Rattle.poke_batch.specs.declared.stage.Stage.TheVariants.{Idle, Trap, Tail, First, Sync, Return}
 use Rattle.poke_batch.specs.Inside.{chunk_at, later_at, left_at, walk_at, walk_in}
-use Rattle.poke_batch.specs.Poke.{Item, chunks, firsts, from_firsts, from_tails, poke, tails, traps}
+use Rattle.poke_batch.specs.Poke.{Item, chunks, firsts, from_firsts, from_tails, poke, tails}
 use Rattle.poke_batch.specs.Poke.Item.{Puts, Syncs}
-use Rattle.poke_batch.specs.Stage.{IsInside, after_chunk, after_due, after_sync, is_idle, is_requested, site_size}
+use Rattle.poke_batch.specs.Stage.{IsInside, after_due, after_sync, is_idle, is_requested}
 use Rattle.poke_batch.specs.Walk.{BatchState, Walk, due_at, due_of, moved, next_phase, nobody, opened, at_first, passed, taken}
-use Rattle.poke_batch.proofs.Chunks.{chunks-none, chunks-step}
-use Rattle.poke_batch.proofs.Stages.{IsWhole, Moves, site_size-two, stage_moves, tails_from-one}
+use Rattle.poke_batch.proofs.Chunks.{chunks-step}
+use Rattle.poke_batch.proofs.Stages.{IsWhole, site_size-two, stage_moves, tails_from-one}
 use Rattle.poke_batch.proofs.Walks.{taken-all, taken-some}
 
 -- what holds of a walk that is open holds of the update
@@ -137,13 +136,13 @@ progress_takes from stage changes acks n cpu lt some =
     ∙ (ap (λ (idle : Bool). if idle then None else Some (walk (set took cpu true))) active ∙ ap Some (sym (taken-some (walk took) cpu some_took))))
 
 -- a chunk that begins before the end has a site
-chunk-some : (from : ℕ) (changes : List Change) → from < length changes → 0 < length (chunk_at from changes)
+pub chunk-some : (from : ℕ) (changes : List Change) → from < length changes → 0 < length (chunk_at from changes)
 chunk-some from changes lt = omega (arith, length-take 256 (drop from changes), length-drop from changes)
 
--- after a chunk
-record Sits (changes : List Change) (progress : Progress) : Type 0 where
-  from : progress.from < length changes
-  inside : IsInside (chunk_at progress.from changes) progress.stage
+-- the open chunk has a site, and the due write lies in it
+pub record Sits (changes : List Change) (progress : Progress) : Type 0 where
+  pub from : progress.from < length changes
+  pub inside : IsInside (chunk_at progress.from changes) progress.stage
 
 chunk_sits : (from : ℕ) (changes : List Change) (more : Bool) → nat_lt (from + 256) (length changes) ≡ more → from < length changes → Sits changes (if more then record { from = from + 256; stage = Trap 0 } else record { from = from; stage = Return })
 chunk_sits from changes true is lt =
@@ -152,7 +151,7 @@ chunk_sits from changes true is lt =
 chunk_sits from changes false is lt = record { from = lt; inside = tt }
 
 -- the due write lies in the open chunk after a synchronisation
-sync_sits : (from : ℕ) (stage : Stage) (changes : List Change) → from < length changes → IsInside (chunk_at from changes) stage → Sits changes (after_sync (length changes) from stage)
+pub sync_sits : (from : ℕ) (stage : Stage) (changes : List Change) → from < length changes → IsInside (chunk_at from changes) stage → Sits changes (after_sync (length changes) from stage)
 sync_sits from Idle changes lt inside = record { from = lt; inside = inside }
 sync_sits from (Trap site) changes lt inside = record { from = lt; inside = inside }
 sync_sits from (Tail site place) changes lt inside = record { from = lt; inside = inside }
@@ -164,12 +163,6 @@ sync_sits from (Sync Traps requested) changes lt inside =
 sync_sits from (Sync Tails requested) changes lt inside = record { from = lt; inside = chunk-some from changes lt }
 sync_sits from (Sync Firsts requested) changes lt inside = chunk_sits from changes (nat_lt (from + 256) (length changes)) refl lt
 sync_sits from Return changes lt inside = record { from = lt; inside = inside }
-
-pub from_after_sync : (from : ℕ) (stage : Stage) (changes : List Change) → from < length changes → IsInside (chunk_at from changes) stage → (after_sync (length changes) from stage).from < length changes
-from_after_sync from stage changes lt inside = (sync_sits from stage changes lt inside).from
-
-pub inside_after_sync : (from : ℕ) (stage : Stage) (changes : List Change) → from < length changes → IsInside (chunk_at from changes) stage → IsInside (chunk_at (after_sync (length changes) from stage).from changes) (after_sync (length changes) from stage).stage
-inside_after_sync from stage changes lt inside = (sync_sits from stage changes lt inside).inside
 
 -- an update that waits is open
 pub waits_open : (from : ℕ) (stage : Stage) (changes : List Change) (took : List Bool) → due_of (walk_at (record { from = from; stage = stage }) changes took) ≡ Wait → is_idle stage ≡ false

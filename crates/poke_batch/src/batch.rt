@@ -118,10 +118,9 @@ impl Batch {
         ensures refused { OnErr result (self.new ≡ self.old) }
         ensures underway { IfSome self.new.update (IsUnderway self.new.cpus) }
     {
-        self.progress = Progress {
-            from: 0,
-            stage: Stage::Idle,
-        };
+        // No update is open until all sites were tried.
+        self.progress.from = 0;
+        self.progress.stage = Stage::Idle;
         patch_all(&mut self.patches, changes.list(), text)?;
         self.progress.stage = Stage::Trap(0);
         Ok(())

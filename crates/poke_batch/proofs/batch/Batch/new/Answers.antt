@@ -1,4 +1,4 @@
-use Rattle.std.proofs.Common.{List, [], All, arith, false, subst, sym}
+use Rattle.std.proofs.Common.{List, All, arith, false, subst, sym}
 use Rattle.std.proofs.lemmas.List.{take-replicate}
 use Rattle.std.proofs.lemmas.List.Elements.{All-nil}
 use Rattle.poke_batch.specs.declared.patch.Patch.{Patch}
