@@ -1,5 +1,12 @@
 mod Examples
 mod Patches
+mod Chunks
 mod Stages
+mod Progresses
+mod ChunkPatches
+mod Clashes
+mod Finding
+mod Fields
+pub mod Underways
 pub mod Walks
 pub mod Flags

@@ -1,203 +1,226 @@
--- The stages of an update of one site go through its walk.
-use Rattle.std.proofs.Common.{◌≡◌, ◌+◌, ◌<◌, ◌≤◌, ℕ, zero, suc, Bool, true, false, if◌then◌else◌, MatchBool, nat_lt, List, [], ◌∷◌, ◌++◌, length, map, drop, take, set, replicate, get_or, Option, Some, None, IfSome, refl, ap, sym, ◌∙◌, subst, add-one, arith, drop-cons}
-use Rattle.std.specs.Bool.{⊤}
-use Rattle.std.specs.List.{list_all}
+-- The stages of a chunk go through the items of its poke.
+use Rattle.std.proofs.Common.{◌≡◌, ◌+◌, ◌<◌, ◌≤◌, ℕ, zero, suc, Bool, true, false, if◌then◌else◌, nat_lt, List, [], ◌∷◌, ◌++◌, length, map, drop, get_or, Option, Some, None, All, refl, ap, sym, ◌∙◌, add-one, arith, drop-cons}
 use Rattle.std.proofs.Math.ListN.{drop_of_length-le}
-use Rattle.std.proofs.Math.Seq.{take-set-lt}
-use Rattle.std.proofs.lemmas.Bool.{ltb-false}
-use Rattle.std.proofs.lemmas.List.{take-replicate, length-take, length-take-le}
-use Rattle.std.proofs.lemmas.Option.{IfSome_then}
+use Rattle.std.proofs.lemmas.Bool.{ltb-false, ltb-true}
 use Rattle.insn_forms.specs.declared.forms.Change.{Change}
+use Rattle.insn_forms.specs.declared.forms.Form.TheVariants.{Nop2}
 use Rattle.insn_forms.specs.Spelling.{size}
 use Rattle.insn_forms.specs.Write.{Write}
-use Rattle.poke_batch.specs.declared.batch.Due.TheVariants.{Wait}
-use Rattle.poke_batch.specs.declared.patch.Patch.{Patch}
+use Rattle.poke_batch.specs.declared.batch.Due.TheVariants.{Write as Writes}
 use Rattle.poke_batch.specs.declared.stage.Round.TheVariants.{Traps, Tails, Firsts}
 use Rattle.poke_batch.specs.declared.stage.Stage.{Stage}
 use Rattle.poke_batch.specs.declared.stage.Stage.TheVariants.{Idle, Trap, Tail, First, Sync, Return}
-use Rattle.poke_batch.specs.Poke.{Item, spelled, writes_from, tails, from_firsts, from_tails}
+use Rattle.poke_batch.specs.Inside.{due_in, left_at, tails_from, walk_in}
+use Rattle.poke_batch.specs.Poke.{Item, firsts, from_firsts, from_tails, spelled, tails, traps, writes_from}
 use Rattle.poke_batch.specs.Poke.Item.{Puts, Syncs}
-use Rattle.poke_batch.specs.Stage.{IsInside, after_due, after_sync, is_idle, is_requested}
-use Rattle.poke_batch.specs.Inside.{IsAlone, IsPatched, change_of, left_at, tails_from, walk_at, walk_in}
-use Rattle.poke_batch.specs.Walk.{BatchState, Walk, due_at, due_of, moved, moved_at, nobody, next_phase, passed, taken}
+use Rattle.poke_batch.specs.Stage.{IsInside, after_due, is_idle, is_requested, site_size, tail_after}
+use Rattle.poke_batch.specs.Walk.{Walk, due_at, moved, moved_at}
+use Rattle.insn_forms.proofs.Spellings.{size_most}
 use Rattle.poke_batch.proofs.Patches.{two-le-size}
-use Rattle.poke_batch.proofs.Walks.{taken-all, taken-some}
 
--- what is left of a site's tail, and of the chunk after it
-abbrev rest_of : Change → ℕ → List ℕ → List Item
-rest_of c at bytes = map Puts (writes_from at bytes ++ []) ++ Syncs ∷ from_firsts (c ∷ [])
+-- the new form is spelt in as many bytes as it takes
+pub record IsWhole (c : Change) : Type 0 where
+  pub whole : length (spelled c.new c.at) ≡ size c.new
 
--- the walk in a tail with these items left
-abbrev in_tail : Change → List Bool → List Item → Option Walk
-in_tail c took left = Some (record (walk_in Trap (c ∷ []) took) { left = left })
+-- the size of a site is that of its new form
+pub site_size-is : (chunk : List Change) (site : ℕ) (d : Change) → site < length chunk → site_size chunk site ≡ size (get_or chunk site d).new
+site_size-is [] site d lt = absurd (omega arith)
+site_size-is (c ∷ chunk) zero d lt = refl
+site_size-is (c ∷ chunk) (suc site) d lt = site_size-is chunk site d (omega arith)
 
--- after the due byte of a tail is its next byte, or else the synchronisation
-tail_moves : (c : Change) (took : List Bool) (place n : ℕ) (more : Bool) → length (spelled c.new c.at) ≡ n → place < n → nat_lt (place + 1) n ≡ more → walk_at (if more then Tail (place + 1) else Sync Tails false) (c ∷ []) took ≡ moved_at (rest_of c (c.at + place) (drop place (spelled c.new c.at))) (walk_in (Tail place) (c ∷ []) took)
-tail_moves c took place n true len lt is_more =
-    let code : List ℕ = spelled c.new c.at in
-    let at : c.at + (place + 1) ≡ (c.at + place) + 1 = omega arith in
-    subst (λ (bytes : List ℕ). in_tail c took (rest_of c (c.at + (place + 1)) (drop (place + 1) code)) ≡ moved_at (rest_of c (c.at + place) bytes) (walk_in (Tail place) (c ∷ []) took)) (sym (drop-cons code place 0 (omega arith)))
-    (ap (λ a. in_tail c took (rest_of c a (drop (place + 1) code))) at ∙ ap (λ k. in_tail c took (rest_of c ((c.at + place) + 1) (drop k code))) (add-one place))
-tail_moves c took place n false len lt is_last =
-    let code : List ℕ = spelled c.new c.at in
-    let end : n ≤ place + 1 = ltb-false (place + 1) n is_last in
-    let short : length code ≤ suc place = omega arith in
-    let none : drop (suc place) code ≡ [] = drop_of_length-le code short in
-    subst (λ (bytes : List ℕ). in_tail c took (Syncs ∷ from_firsts (c ∷ [])) ≡ moved_at (rest_of c (c.at + place) bytes) (walk_in (Tail place) (c ∷ []) took)) (sym (drop-cons code place 0 (omega arith)))
-    (ap (λ bytes. in_tail c took (rest_of c ((c.at + place) + 1) bytes)) (sym none))
+-- each site has a tail
+pub site_size-two : (chunk : List Change) (site : ℕ) → site < length chunk → 2 ≤ site_size chunk site
+site_size-two [] site lt = absurd (omega arith)
+site_size-two (c ∷ chunk) zero lt = two-le-size c.new
+site_size-two (c ∷ chunk) (suc site) lt = site_size-two chunk site (omega arith)
 
--- after the due item is done, the stage stands for the walk after it
-stage_moves : (stage : Stage) (c : Change) (took : List Bool) → is_idle stage ≡ false → length (spelled c.new c.at) ≡ size c.new → IsInside (size c.new) stage → walk_at (after_due (size c.new) stage) (c ∷ []) took ≡ moved (walk_in stage (c ∷ []) took)
-stage_moves Idle c took active len inside = cc
-stage_moves Trap c took active len inside = refl
-stage_moves (Tail place) c took active len inside = tail_moves c took place (size c.new) _ len inside refl
-stage_moves First c took active len inside = refl
-stage_moves (Sync Traps requested) c took active len inside = refl
-stage_moves (Sync Tails requested) c took active len inside = refl
-stage_moves (Sync Firsts requested) c took active len inside = refl
-stage_moves Return c took active len inside = refl
-
--- the same of the patches, of which q is the first
-alone_moves : (stage : Stage) (patches : List Patch) (took : List Bool) (q : Patch) → is_idle stage ≡ false → IsAlone stage patches → q ≡ get_or patches 0 q → walk_at (after_due (size q.change.new) stage) (map change_of patches) took ≡ moved (walk_in stage (map change_of patches) took)
-alone_moves stage [] took q active alone is = absurd alone
-alone_moves stage (p ∷ []) took q active alone is =
-    subst (λ (r : Patch). walk_at (after_due (size r.change.new) stage) (p.change ∷ []) took ≡ moved (walk_in stage (p.change ∷ []) took)) (sym is)
-    (stage_moves stage p.change took active (sym (ap length alone.0.code) ∙ alone.0.whole) alone.1)
-alone_moves stage (p ∷ next ∷ patches) took q active alone is = absurd alone
-
--- what holds of a walk that is open holds of the update
-where_open : (idle : Bool) (walk : Walk) (Q : Walk → Type 0) → (idle ≡ false → Q walk) → IfSome (if idle then None else Some walk) Q
-where_open true walk Q f = tt
-where_open false walk Q f = f refl
-
--- the same of the fields of a batch, where n is the size of the first patch's site
-pub patched_moves : (stage : Stage) (patches : List Patch) (took : List Bool) (q : Patch) (n : ℕ) → IsPatched stage patches → q ≡ get_or patches 0 q → n ≡ size q.change.new → IfSome (walk_at stage (map change_of patches) took) (λ walk. walk_at (after_due n stage) (map change_of patches) took ≡ moved walk)
-patched_moves stage patches took q n patched is size_is =
-    where_open (is_idle stage) (walk_in stage (map change_of patches) took) (λ walk. walk_at (after_due n stage) (map change_of patches) took ≡ moved walk)
-    (λ active. ap (λ k. walk_at (after_due k stage) (map change_of patches) took) size_is ∙ alone_moves stage patches took q active (subst (λ (idle : Bool). MatchBool idle ⊤ (IsAlone stage patches)) active patched) is)
-
--- after the last chunk's synchronisation is what is left of it
-next_phase-last : (left : List Item) (walk : Walk) → next_phase left [] walk ≡ record walk { left = left }
-next_phase-last [] walk = refl
-next_phase-last (item ∷ left) walk = refl
+-- and at most five bytes
+pub site_size-most : (chunk : List Change) (site : ℕ) → site_size chunk site ≤ 5
+site_size-most [] site = omega arith
+site_size-most (c ∷ chunk) zero = size_most c.new
+site_size-most (c ∷ chunk) (suc site) = site_size-most chunk site
 
 -- the tails begin after the first bytes
-tails_from_one : (chunk : List Change) → tails_from 1 chunk ≡ tails chunk
-tails_from_one [] = refl
-tails_from_one (c ∷ chunk) = refl
+pub tails_from-one : (chunk : List Change) → tails_from 1 chunk ≡ tails chunk
+tails_from-one [] = refl
+tails_from-one (c ∷ chunk) = refl
 
--- without a request no wait is due
-unrequested : (left : List Item) → due_at left false ≡ Wait → ⊥
-unrequested [] e = cc
-unrequested (Puts w ∷ left) e = cc
-unrequested (Syncs ∷ left) e = cc
+-- a stage of a chunk, not asked for yet, at which these items are left
+record Stands (chunk : List Change) (stage : Stage) (items : List Item) : Type 0 where
+  left : left_at stage chunk ≡ items
+  unasked : is_requested stage ≡ false
+  active : is_idle stage ≡ false
+  inside : IsInside chunk stage
 
--- the walk with what is left, where nobody has taken a request
-abbrev after : List Change → ℕ → List Item → Walk
-after chunk cpus left = record (walk_in Trap chunk (nobody cpus)) { left = left }
+-- after the trap of a site
+trap_next : (chunk : List Change) (site : ℕ) (more : Bool) → nat_lt (site + 1) (length chunk) ≡ more → Stands chunk (if more then Trap (site + 1) else Sync Traps false) (map Puts (traps (drop (suc site) chunk)) ++ Syncs ∷ from_tails chunk)
+trap_next chunk site true is = record {
+  left = ap (λ place. map Puts (traps (drop place chunk)) ++ Syncs ∷ from_tails chunk) (add-one site);
+  unasked = refl;
+  active = refl;
+  inside = ltb-true (site + 1) (length chunk) is;
+}
+trap_next chunk site false is =
+    let end : length chunk ≤ site + 1 = ltb-false (site + 1) (length chunk) is in
+    let short : length chunk ≤ suc site = omega arith in
+    record {
+      left = ap (λ (rest : List Change). map Puts (traps rest) ++ Syncs ∷ from_tails chunk) (sym (drop_of_length-le chunk short));
+      unasked = refl;
+      active = refl;
+      inside = tt;
+    }
 
--- after all processors have serialised, the stage stands for the walk after that
-stage_passes : (stage : Stage) (chunk : List Change) (took : List Bool) → due_of (walk_at stage chunk took) ≡ Wait → walk_at (after_sync stage) chunk (nobody (length took)) ≡ Some (passed (walk_in stage chunk took))
-stage_passes Idle chunk took e = cc
-stage_passes Trap chunk took e = absurd (unrequested (left_at Trap chunk) e)
-stage_passes (Tail place) chunk took e = absurd (unrequested (left_at (Tail place) chunk) e)
-stage_passes First chunk took e = absurd (unrequested (left_at First chunk) e)
-stage_passes (Sync Traps requested) chunk took e =
-    ap (λ (writes : List Write). Some (after chunk (length took) (map Puts writes ++ Syncs ∷ from_firsts chunk))) (tails_from_one chunk)
-    ∙ ap Some (sym (next_phase-last (from_tails chunk) (after chunk (length took) (Syncs ∷ from_tails chunk))))
-stage_passes (Sync Tails requested) chunk took e =
-    ap Some (sym (next_phase-last (from_firsts chunk) (after chunk (length took) (Syncs ∷ from_firsts chunk))))
-stage_passes (Sync Firsts requested) chunk took e = refl
-stage_passes Return chunk took e = absurd (unrequested [] e)
+-- after the first byte of a site
+first_next : (chunk : List Change) (site : ℕ) (more : Bool) → nat_lt (site + 1) (length chunk) ≡ more → Stands chunk (if more then First (site + 1) else Sync Firsts false) (map Puts (firsts (drop (suc site) chunk)) ++ Syncs ∷ [])
+first_next chunk site true is = record {
+  left = ap (λ place. map Puts (firsts (drop place chunk)) ++ Syncs ∷ []) (add-one site);
+  unasked = refl;
+  active = refl;
+  inside = ltb-true (site + 1) (length chunk) is;
+}
+first_next chunk site false is =
+    let end : length chunk ≤ site + 1 = ltb-false (site + 1) (length chunk) is in
+    let short : length chunk ≤ suc site = omega arith in
+    record {
+      left = ap (λ (rest : List Change). map Puts (firsts rest) ++ Syncs ∷ []) (sym (drop_of_length-le chunk short));
+      unasked = refl;
+      active = refl;
+      inside = tt;
+    }
 
--- so it does after the last acknowledgement
-pub stage_takes_last : (stage : Stage) (chunk : List Change) (acks : List Bool) (n cpu : ℕ) → n ≤ 16 → length acks ≡ 16 → cpu < n → due_of (walk_at stage chunk (take n acks)) ≡ Wait → list_all (λ flag. flag) (take n (set acks cpu true)) ≡ true → IfSome (walk_at stage chunk (take n acks)) (λ walk. walk_at (after_sync stage) chunk (take n (replicate 16 false)) ≡ Some (taken cpu walk))
-stage_takes_last stage chunk acks n cpu most len lt e all =
-    let took : List Bool = take n acks in
-    let cpus : length took ≡ n = omega (arith, length-take n acks) in
-    let nobody_is : take n (replicate 16 false) ≡ nobody (length took) = take-replicate n 16 false most ∙ ap (λ k. nobody k) (sym cpus) in
-    let all_took : list_all (λ flag. flag) (set took cpu true) ≡ true = ap (λ flags. list_all (λ flag. flag) flags) (sym (take-set-lt n acks cpu true lt)) ∙ all in
-    where_open (is_idle stage) (walk_in stage chunk took) (λ walk. walk_at (after_sync stage) chunk (take n (replicate 16 false)) ≡ Some (taken cpu walk))
-    (λ active. ap (λ flags. walk_at (after_sync stage) chunk flags) nobody_is ∙ stage_passes stage chunk took e ∙ ap Some (sym (taken-all (walk_in stage chunk took) cpu all_took)))
+-- after the tail of a site
+tail_next : (chunk : List Change) (site : ℕ) (more : Bool) → nat_lt (site + 1) (length chunk) ≡ more → Stands chunk (if more then Tail (site + 1) 1 else Sync Tails false) (map Puts (tails (drop (suc site) chunk)) ++ Syncs ∷ from_firsts chunk)
+tail_next chunk site true is =
+    let lt : site + 1 < length chunk = ltb-true (site + 1) (length chunk) is in
+    let two = site_size-two chunk (site + 1) lt in
+    record {
+      left =
+          ap (λ (writes : List Write). map Puts writes ++ Syncs ∷ from_firsts chunk) (tails_from-one (drop (site + 1) chunk))
+          ∙ ap (λ place. map Puts (tails (drop place chunk)) ++ Syncs ∷ from_firsts chunk) (add-one site);
+      unasked = refl;
+      active = refl;
+      inside = (lt, omega arith);
+    }
+tail_next chunk site false is =
+    let end : length chunk ≤ site + 1 = ltb-false (site + 1) (length chunk) is in
+    let short : length chunk ≤ suc site = omega arith in
+    record {
+      left = ap (λ (rest : List Change). map Puts (tails rest) ++ Syncs ∷ from_firsts chunk) (sym (drop_of_length-le chunk short));
+      unasked = refl;
+      active = refl;
+      inside = tt;
+    }
 
--- any other acknowledgement is noted
-pub stage_takes : (stage : Stage) (chunk : List Change) (acks : List Bool) (n cpu : ℕ) → cpu < n → list_all (λ flag. flag) (take n (set acks cpu true)) ≡ false → IfSome (walk_at stage chunk (take n acks)) (λ walk. walk_at stage chunk (take n (set acks cpu true)) ≡ Some (taken cpu walk))
-stage_takes stage chunk acks n cpu lt some =
-    let took : List Bool = take n acks in
-    let set_is : take n (set acks cpu true) ≡ set took cpu true = take-set-lt n acks cpu true lt in
-    let some_took : list_all (λ flag. flag) (set took cpu true) ≡ false = ap (λ flags. list_all (λ flag. flag) flags) (sym set_is) ∙ some in
-    where_open (is_idle stage) (walk_in stage chunk took) (λ walk. walk_at stage chunk (take n (set acks cpu true)) ≡ Some (taken cpu walk))
-    (λ active. ap (λ flags. walk_at stage chunk flags) set_is ∙ (ap (λ (idle : Bool). if idle then None else Some (walk_in stage chunk (set took cpu true))) active ∙ ap Some (sym (taken-some (walk_in stage chunk took) cpu some_took))))
+-- the items after a byte of a tail
+abbrev after_byte : List Change → ℕ → ℕ → Change → List Item
+after_byte chunk site place c =
+    map Puts (writes_from ((c.at + place) + 1) (drop (suc place) (spelled c.new c.at)) ++ tails (drop (suc site) chunk)) ++ Syncs ∷ from_firsts chunk
 
--- the state after a step whose update is known
-pub state_steps : (old : BatchState) (update : Option Walk) (f : Walk → Option Walk) → IfSome old.update (λ walk. update ≡ f walk) → IfSome old.update (λ walk. record old { update = update } ≡ record old { update = f walk })
-state_steps old update f h =
-    IfSome_then old.update h (λ walk e. ap (λ (u : Option Walk). record old { update = u }) e)
+-- after a byte of a tail
+byte_next : (chunk : List Change) (site place : ℕ) (c : Change) (more : Bool) → site < length chunk → drop site chunk ≡ c ∷ drop (suc site) chunk → length (spelled c.new c.at) ≡ site_size chunk site → nat_lt (place + 1) (site_size chunk site) ≡ more
+    → Stands chunk (if more then Tail site (place + 1) else tail_after site (length chunk)) (after_byte chunk site place c)
+byte_next chunk site place c true lt is whole more =
+    let code : List ℕ = spelled c.new c.at in
+    let at : c.at + (place + 1) ≡ (c.at + place) + 1 = omega arith in
+    record {
+      left =
+          ap (λ (rest : List Change). map Puts (tails_from (place + 1) rest) ++ Syncs ∷ from_firsts chunk) is
+          ∙ ap (λ a. map Puts (writes_from a (drop (place + 1) code) ++ tails (drop (suc site) chunk)) ++ Syncs ∷ from_firsts chunk) at
+          ∙ ap (λ k. map Puts (writes_from ((c.at + place) + 1) (drop k code) ++ tails (drop (suc site) chunk)) ++ Syncs ∷ from_firsts chunk) (add-one place);
+      unasked = refl;
+      active = refl;
+      inside = (lt, ltb-true (place + 1) (site_size chunk site) more);
+    }
+byte_next chunk site place c false lt is whole more =
+    let code : List ℕ = spelled c.new c.at in
+    let end : site_size chunk site ≤ place + 1 = ltb-false (place + 1) (site_size chunk site) more in
+    let short : length code ≤ suc place = omega arith in
+    let next = tail_next chunk site (nat_lt (site + 1) (length chunk)) refl in
+    record {
+      left = next.left ∙ ap (λ bytes. map Puts (writes_from ((c.at + place) + 1) bytes ++ tails (drop (suc site) chunk)) ++ Syncs ∷ from_firsts chunk) (sym (drop_of_length-le code short));
+      unasked = next.unasked;
+      active = next.active;
+      inside = next.inside;
+    }
 
--- nobody has taken a request of an update that isn't open
-pub idle_unasked : (stage : Stage) (chunk : List Change) (took : List Bool) → walk_at stage chunk took ≡ None → is_requested stage ≡ false
-idle_unasked Idle chunk took e = refl
-idle_unasked Trap chunk took e = refl
-idle_unasked (Tail place) chunk took e = refl
-idle_unasked First chunk took e = refl
-idle_unasked (Sync round requested) chunk took e = cc
-idle_unasked Return chunk took e = refl
+-- the due write of a trap, of a tail and of a first byte
+trap_left : (chunk : List Change) (site : ℕ) (c : Change) → drop site chunk ≡ c ∷ drop (suc site) chunk → left_at (Trap site) chunk ≡ Puts (record { at = c.at; byte = 0xcc }) ∷ (map Puts (traps (drop (suc site) chunk)) ++ Syncs ∷ from_tails chunk)
+trap_left chunk site c is = ap (λ (rest : List Change). map Puts (traps rest) ++ Syncs ∷ from_tails chunk) is
 
--- a stage after a synchronisation is one of the site
-inside_after_sync : (stage : Stage) (n : ℕ) → 2 ≤ n → IsInside n stage → IsInside n (after_sync stage)
-inside_after_sync Idle n long inside = tt
-inside_after_sync Trap n long inside = tt
-inside_after_sync (Tail place) n long inside = inside
-inside_after_sync First n long inside = tt
-inside_after_sync (Sync Traps requested) n long inside = omega arith
-inside_after_sync (Sync Tails requested) n long inside = tt
-inside_after_sync (Sync Firsts requested) n long inside = tt
-inside_after_sync Return n long inside = tt
+byte_left : (chunk : List Change) (site place : ℕ) (c : Change) → drop site chunk ≡ c ∷ drop (suc site) chunk → place < length (spelled c.new c.at) → left_at (Tail site place) chunk ≡ Puts (record { at = c.at + place; byte = get_or (spelled c.new c.at) place 0 }) ∷ after_byte chunk site place c
+byte_left chunk site place c is lt =
+    ap (λ (rest : List Change). map Puts (tails_from place rest) ++ Syncs ∷ from_firsts chunk) is
+    ∙ ap (λ bytes. map Puts (writes_from (c.at + place) bytes ++ tails (drop (suc site) chunk)) ++ Syncs ∷ from_firsts chunk) (drop-cons (spelled c.new c.at) place 0 lt)
 
--- an update stays open after a synchronisation
-idle_after_sync : (stage : Stage) → is_idle (after_sync stage) ≡ is_idle stage
-idle_after_sync Idle = refl
-idle_after_sync Trap = refl
-idle_after_sync (Tail place) = refl
-idle_after_sync First = refl
-idle_after_sync (Sync Traps requested) = refl
-idle_after_sync (Sync Tails requested) = refl
-idle_after_sync (Sync Firsts requested) = refl
-idle_after_sync Return = refl
+first_left : (chunk : List Change) (site : ℕ) (c : Change) → drop site chunk ≡ c ∷ drop (suc site) chunk → left_at (First site) chunk ≡ Puts (record { at = c.at; byte = get_or (spelled c.new c.at) 0 0 }) ∷ (map Puts (firsts (drop (suc site) chunk)) ++ Syncs ∷ [])
+first_left chunk site c is = ap (λ (rest : List Change). map Puts (firsts rest) ++ Syncs ∷ []) is
 
--- so its one patch stays
-alone_after_sync : (stage : Stage) (patches : List Patch) → IsAlone stage patches → IsAlone (after_sync stage) patches
-alone_after_sync stage [] alone = alone
-alone_after_sync stage (p ∷ []) alone =
-    (alone.0, inside_after_sync stage (size p.change.new) (two-le-size p.change.new) alone.1)
-alone_after_sync stage (p ∷ next ∷ patches) alone = alone
+-- what is due there
+pub trap_due : (chunk : List Change) (site : ℕ) (c : Change) → site < length chunk → c ≡ get_or chunk site c → Writes c.at 0xcc ≡ due_in (Trap site) chunk
+trap_due chunk site c lt is =
+    let here : drop site chunk ≡ c ∷ drop (suc site) chunk = drop-cons chunk site c lt ∙ ap (λ (d : Change). d ∷ drop (suc site) chunk) (sym is) in
+    sym (ap (λ left. due_at left false) (trap_left chunk site c here))
 
--- the fields of a batch stay sound after a synchronisation
-pub patched_after_sync : (stage : Stage) (patches : List Patch) → IsPatched stage patches → IsPatched (after_sync stage) patches
-patched_after_sync stage patches patched =
-    subst (λ (idle : Bool). MatchBool idle ⊤ (IsAlone (after_sync stage) patches)) (sym (idle_after_sync stage)) (by_idle (is_idle stage) patched)
-  where
-    by_idle : (idle : Bool) → MatchBool idle ⊤ (IsAlone stage patches) → MatchBool idle ⊤ (IsAlone (after_sync stage) patches)
-    by_idle true h = tt
-    by_idle false h = alone_after_sync stage patches h
+pub byte_due : (chunk : List Change) (site place : ℕ) (c : Change) → site < length chunk → c ≡ get_or chunk site c → place < length (spelled c.new c.at) → Writes (c.at + place) (get_or (spelled c.new c.at) place 0) ≡ due_in (Tail site place) chunk
+byte_due chunk site place c lt is within =
+    let here : drop site chunk ≡ c ∷ drop (suc site) chunk = drop-cons chunk site c lt ∙ ap (λ (d : Change). d ∷ drop (suc site) chunk) (sym is) in
+    sym (ap (λ left. due_at left false) (byte_left chunk site place c here within))
 
--- where there are processors, not all of them are nobody
-nobody-unfinished : (n : ℕ) → 1 ≤ n → list_all (λ flag. flag) (nobody n) ≡ false
-nobody-unfinished zero some = absurd (omega arith)
-nobody-unfinished (suc n) some = refl
+pub first_due : (chunk : List Change) (site : ℕ) (c : Change) → site < length chunk → c ≡ get_or chunk site c → Writes c.at (get_or (spelled c.new c.at) 0 0) ≡ due_in (First site) chunk
+first_due chunk site c lt is =
+    let here : drop site chunk ≡ c ∷ drop (suc site) chunk = drop-cons chunk site c lt ∙ ap (λ (d : Change). d ∷ drop (suc site) chunk) (sym is) in
+    sym (ap (λ left. due_at left false) (first_left chunk site c here))
 
--- the same of all the flags that a batch has
-pub cleared-unfinished : (n : ℕ) → 1 ≤ n → n ≤ 16 → list_all (λ flag. flag) (take n (replicate 16 false)) ≡ false
-cleared-unfinished n some most =
-    ap (λ flags. list_all (λ flag. flag) flags) (take-replicate n 16 false most) ∙ nobody-unfinished n some
+-- the open update at a stage of a chunk, where one is open
+abbrev pub open_at : List Change → List (List Change) → Stage → List Change → List Bool → Option Walk
+open_at chunk later stage changes took = if is_idle stage then None else Some (walk_in chunk later stage changes took)
 
--- an open update has a flag for each processor
-pub flag_each : (stage : Stage) (chunk : List Change) (acks : List Bool) (n : ℕ) → n ≤ length acks → IfSome (walk_at stage chunk (take n acks)) (λ walk. length walk.took ≡ n)
-flag_each stage chunk acks n le =
-    where_open (is_idle stage) (walk_in stage chunk (take n acks)) (λ walk. length walk.took ≡ n)
-    (λ active. length-take-le n acks le)
+-- after the due write is the stage at which the other items are left
+write_moves : (chunk : List Change) (later : List (List Change)) (stage next : Stage) (changes : List Change) (took : List Bool) (w : Write) (left : List Item) → left_at stage chunk ≡ Puts w ∷ left → is_requested stage ≡ false → Stands chunk next left → open_at chunk later next changes took ≡ moved (walk_in chunk later stage changes took)
+write_moves chunk later stage next changes took w left is unasked stands =
+    let walk : List Item → Bool → Option Walk = λ items requested. Some (record { changes = changes; chunk = chunk; left = items; later = later; requested = requested; took = took }) in
+    ap (λ (idle : Bool). if idle then None else Some (walk_in chunk later next changes took)) stands.active
+    ∙ ap (λ items. walk items (is_requested next)) stands.left
+    ∙ ap (λ requested. walk left requested) (stands.unasked ∙ sym unasked)
+    ∙ sym (ap (λ items. moved_at items (walk_in chunk later stage changes took)) is)
 
--- an open update has no further chunk
-pub no_later : (stage : Stage) (chunk : List Change) (took : List Bool) → IfSome (walk_at stage chunk took) (λ walk. walk.later ≡ [])
-no_later stage chunk took =
-    where_open (is_idle stage) (walk_in stage chunk took) (λ walk. walk.later ≡ []) (λ active. refl)
+-- the stage after the due write, request or return stands for the update after it, and lies in the chunk
+pub record Moves (chunk : List Change) (later : List (List Change)) (stage : Stage) (changes : List Change) (took : List Bool) : Type 0 where
+  pub step : open_at chunk later (after_due chunk stage) changes took ≡ moved (walk_in chunk later stage changes took)
+  pub inside : IsInside chunk (after_due chunk stage)
+
+-- some change, where there is none
+abbrev no_change : Change
+no_change = record { at = 0; old = Nop2; new = Nop2 }
+
+pub stage_moves : (chunk : List Change) (later : List (List Change)) (stage : Stage) (changes : List Change) (took : List Bool) → is_idle stage ≡ false → IsInside chunk stage → All IsWhole chunk → Moves chunk later stage changes took
+stage_moves chunk later Idle changes took active inside whole = absurd (cc)
+stage_moves chunk later (Trap site) changes took active inside whole =
+    let c : Change = get_or chunk site no_change in
+    let next = trap_next chunk site (nat_lt (site + 1) (length chunk)) refl in
+    record {
+      step = write_moves chunk later (Trap site) _ changes took _ _ (trap_left chunk site c (drop-cons chunk site no_change inside)) refl next;
+      inside = next.inside;
+    }
+stage_moves chunk later (Tail site place) changes took active inside whole =
+    let c : Change = get_or chunk site no_change in
+    let size_is = site_size-is chunk site no_change inside.0 in
+    let long : length (spelled c.new c.at) ≡ site_size chunk site = (whole site no_change inside.0).whole ∙ sym size_is in
+    let here : drop site chunk ≡ c ∷ drop (suc site) chunk = drop-cons chunk site no_change inside.0 in
+    let next = byte_next chunk site place c (nat_lt (place + 1) (site_size chunk site)) inside.0 here long refl in
+    let within : place < length (spelled c.new c.at) = let lt = inside.1 in omega arith in
+    record {
+      step = write_moves chunk later (Tail site place) _ changes took _ _ (byte_left chunk site place c here within) refl next;
+      inside = next.inside;
+    }
+stage_moves chunk later (First site) changes took active inside whole =
+    let c : Change = get_or chunk site no_change in
+    let next = first_next chunk site (nat_lt (site + 1) (length chunk)) refl in
+    record {
+      step = write_moves chunk later (First site) _ changes took _ _ (first_left chunk site c (drop-cons chunk site no_change inside)) refl next;
+      inside = next.inside;
+    }
+stage_moves chunk later (Sync Traps requested) changes took active inside whole = record { step = refl; inside = tt }
+stage_moves chunk later (Sync Tails requested) changes took active inside whole = record { step = refl; inside = tt }
+stage_moves chunk later (Sync Firsts requested) changes took active inside whole = record { step = refl; inside = tt }
+stage_moves chunk later Return changes took active inside whole = record { step = refl; inside = tt }

@@ -55,14 +55,14 @@ moved-requests (Some walk) new step e =
     let kept : (due_of (moved walk) ≡ Wait) × (to_come (moved walk) ≡ to_come (Some walk)) = request_waits walk.left walk refl e in
     (ap (λ after. due_of after) step ∙ kept.0, ap (λ after. to_come after) step ∙ kept.1)
 
--- after the last chunk a return is due where nothing is to come, and closes the update
-return_closes : (left : List Item) (walk : Walk) → walk.later ≡ [] → due_at left walk.requested ≡ Return → (moved_at left walk ≡ None) × (left ++ flat_map poke walk.later ≡ [])
-return_closes [] walk last e = (refl, ap (flat_map poke) last)
+-- a return is due where nothing is to come, and closes the update
+return_closes : (left : List Item) (walk : Walk) → (left ≡ [] → walk.later ≡ []) → due_at left walk.requested ≡ Return → (moved_at left walk ≡ None) × (left ++ flat_map poke walk.later ≡ [])
+return_closes [] walk last e = (refl, ap (flat_map poke) (last refl))
 return_closes (Puts v ∷ left) walk last e = cc
 return_closes (Syncs ∷ left) walk last e = absurd (sync_returns_not walk.requested e)
 
 -- the same of an update and of what follows its due return
-pub moved-returns : (old new : Option Walk) → IfSome old (λ walk. new ≡ moved walk) → IfSome old (λ walk. walk.later ≡ []) → due_of old ≡ Return → (new ≡ None) × (to_come old ≡ [])
+pub moved-returns : (old new : Option Walk) → IfSome old (λ walk. new ≡ moved walk) → IfSome old (λ walk. walk.left ≡ [] → walk.later ≡ []) → due_of old ≡ Return → (new ≡ None) × (to_come old ≡ [])
 moved-returns None new step last e = cc
 moved-returns (Some walk) new step last e =
     let closed : (moved walk ≡ None) × (to_come (Some walk) ≡ []) = return_closes walk.left walk last e in

@@ -1,16 +1,15 @@
 //! The open update, one due event at a time (Linux `arch/x86/kernel/alternative.c`, `text_poke_bp_batch`).
-ghost use Rattle.std.specs.Prelude.{◌≡◌};
+ghost use Rattle.std.specs.Prelude.{◌≡◌, ◌≤◌, ◌<◌, All, AllPairs, Some, None, length, map};
 ghost use Rattle.std.specs.List.{list_all};
+ghost use Rattle.poke_batch.specs.Inside.{change_of};
+ghost use Rattle.poke_batch.specs.Walk.{new_form};
 
-use crate::patch::{Patch, patch_of};
-use crate::stage::{Round, Stage};
+use crate::patch::{Patch, patch_all};
+use crate::stage::{Progress, Stage};
 use insn_forms::{Changes, Form, Held};
 use poke_base::{CodeBytes, NoMemory};
 use std::alloc::Global;
 use std::marker::Model;
-
-/// What is written into the first byte of a site while its other bytes change.
-const INT3: u8 = 0xcc;
 
 /// How many processors there may be.
 const MOST_CPUS: usize = 16;
@@ -43,16 +42,16 @@ pub enum Due {
 
 /// The update that is open, if one is, and how far its poke has come.
 ///
-/// It takes all its memory when it is made. In each chunk INT3 goes into the first bytes, then the
-/// tails are written, then the first bytes, and after each of the three every processor has to
-/// acknowledge a request.
+/// It takes all its memory when it is made. The sites are poked in chunks of 256. In each chunk INT3
+/// goes into the first bytes, then the tails are written, then the first bytes, and after each of the
+/// three every processor has to acknowledge a request.
 #[derive(Drop)]
 pub struct Batch {
     sites: u32,
     cpus: u8,
     /// The changes of the open update, or of the last one.
     patches: Vec<Patch>,
-    stage: Stage,
+    progress: Progress,
     /// Which processors have acknowledged the request that stands.
     acks: [bool; MOST_CPUS],
 }
@@ -74,7 +73,8 @@ impl Batch {
     ghost use Rattle.insn_forms.specs.Write.{Write};
     ghost use Rattle.poke_batch.specs.Poke.{items};
     ghost use Rattle.poke_batch.specs.Poke.Item.{Puts, Syncs};
-    ghost use Rattle.poke_batch.specs.Walk.{opened, to_come, due_of, CanTake, moved, taken, has_taken, open_form};
+    ghost use Rattle.poke_batch.specs.Walk.{opened, to_come, due_of, nobody, CanTake, moved, taken, has_taken, open_form};
+    ghost use Rattle.poke_batch.specs.Underway.{IsUnderway};
     ghost use Rattle.poke_batch.specs.Clash.{CanPoke, NamesClash, first_clash};
 
     /// An idle batch with room for the changes of `sites` sites, for the processors 0 to `cpus - 1`.
@@ -82,7 +82,6 @@ impl Batch {
     /// # Errors
     /// Out of memory.
     pub fn new(alloc: Global, sites: u32, cpus: u8) -> Result<Batch, NoMemory>
-        requires one_site { sites ≡ 1 }
         requires some_cpus { 1 ≤ cpus }
         requires most_cpus { cpus ≤ 16 }
         ensures { IfOk result (λ batch. batch ≡ record { sites = sites; cpus = cpus; update = None }) }
@@ -92,7 +91,10 @@ impl Batch {
                 sites,
                 cpus,
                 patches,
-                stage: Stage::Idle,
+                progress: Progress {
+                    from: 0,
+                    stage: Stage::Idle,
+                },
                 acks: [false; MOST_CPUS],
             }),
             Err(_) => Err(NoMemory),
@@ -114,11 +116,13 @@ impl Batch {
         ensures no_clash { OnOk result (first_clash (T.held_byte text.now) changes.now.list ≡ None) }
         ensures clash { IfErr result (NamesClash (T.held_byte text.now) changes.now.list) }
         ensures refused { OnErr result (self.new ≡ self.old) }
+        ensures underway { IfSome self.new.update (IsUnderway self.new.cpus) }
     {
-        let patch = patch_of(changes.list()[0], text)?;
-        self.patches.clear();
-        self.patches.push_reserved(patch);
-        self.stage = Stage::Trap;
+        // No update is open until all sites were tried.
+        self.progress.from = 0;
+        self.progress.stage = Stage::Idle;
+        patch_all(&mut self.patches, changes.list(), text)?;
+        self.progress.stage = Stage::Trap(0);
         Ok(())
     }
 
@@ -127,25 +131,10 @@ impl Batch {
         ensures due { result ≡ due_of self.now.update }
         // Some processor hasn't taken the request that is waited for.
         ensures lacks { result ≡ Due.Wait → ((cpu : ℕ) × (cpu < self.now.cpus) × (has_taken self.now.update cpu ≡ false)) }
+        ensures underway { IfSome self.now.update (IsUnderway self.now.cpus) }
     {
-        match self.stage {
-            Stage::Idle => Due::Idle,
-            Stage::Trap => Due::Write {
-                at: self.patches[0].change.at,
-                byte: INT3,
-            },
-            Stage::Tail(place) => self.patches[0].write_at(place),
-            Stage::First => self.patches[0].write_at(0),
-            Stage::Sync {
-                requested: false,
-                ..
-            } => Due::Request,
-            Stage::Sync {
-                requested: true,
-                ..
-            } => Due::Wait,
-            Stage::Return => Due::Return,
-        }
+        let chunk = self.progress.chunk(&self.patches);
+        self.progress.stage.due(chunk)
     }
 
     /// Moves on after a due write, request or return, which the caller has done.
@@ -159,9 +148,12 @@ impl Batch {
         ensures unasked { due_of self.old.update ≢ Due.Request → due_of self.new.update ≢ Due.Wait }
         ensures same_sites { self.new.sites ≡ self.old.sites }
         ensures same_cpus { self.new.cpus ≡ self.old.cpus }
+        // Nobody has taken a request that was just made.
+        ensures nobody { due_of self.old.update ≡ Due.Request → IfSome self.new.update (λ walk. walk.took ≡ nobody self.new.cpus) }
+        ensures underway { IfSome self.new.update (IsUnderway self.new.cpus) }
     {
-        let size = self.patches[0].change.new.size();
-        self.stage = self.stage.after_due(size);
+        let chunk = self.progress.chunk(&self.patches);
+        self.progress.stage = self.progress.stage.after_due(chunk);
     }
 
     /// Notes that a processor has taken the request that stands. After the last one the next phase
@@ -177,11 +169,12 @@ impl Batch {
         ensures others { (other : ℕ) → other < self.old.cpus → other ≢ cpu → has_taken self.old.update other ≡ false → (due_of self.new.update ≡ Due.Wait) × (to_come self.new.update ≡ to_come self.old.update) }
         ensures same_sites { self.new.sites ≡ self.old.sites }
         ensures same_cpus { self.new.cpus ≡ self.old.cpus }
+        ensures underway { IfSome self.new.update (IsUnderway self.new.cpus) }
     {
         self.acks[usize::from(cpu)] = true;
         if all_set(&self.acks[..usize::from(self.cpus)]) {
             self.acks = [false; MOST_CPUS];
-            self.stage = self.stage.after_sync();
+            self.progress = self.progress.after_sync(self.patches.len());
         }
     }
 
@@ -196,17 +189,27 @@ impl Batch {
     /// The new form, with its size, of the site of the open chunk that begins at an address. `None`
     /// exactly where no such site does.
     pub fn find(&self, at: u64) -> Option<(Form, u8)>
-        ensures { result ≡ open_form self.now.update at }
+        ensures found { result ≡ open_form self.now.update at }
+        ensures underway { IfSome self.now.update (IsUnderway self.now.cpus) }
     {
-        if let Stage::Idle = self.stage {
+        if let Stage::Idle = self.progress.stage {
             return None;
         }
-        let change = self.patches[0].change;
-        if change.at == at {
-            Some((change.new, change.new.size()))
-        } else {
-            None
+        form_at(self.progress.chunk(&self.patches), at)
+    }
+}
+
+/// The new form, with its size, of the site that begins at an address. The sites ascend.
+fn form_at(chunk: &[Patch], at: u64) -> Option<(Form, u8)>
+    requires { AllPairs (λ p q. p.change.at < q.change.at) chunk.now }
+    ensures { result ≡ new_form (map change_of chunk.now) at }
+{
+    match chunk.binary_search_by_key(&at, |patch| patch.change.at) {
+        Ok(site) => {
+            let form = chunk[site].change.new;
+            Some((form, form.size()))
         }
+        Err(_) => None,
     }
 }
 

@@ -2,9 +2,8 @@
 #![tactic(auto)]
 
 pub mod batch;
+pub mod laws;
 mod patch;
 mod stage;
-#[cfg(test)]
-mod tests;
 
 pub use batch::{Batch, Clash, Due};

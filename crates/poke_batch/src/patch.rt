@@ -1,9 +1,10 @@
 //! The change of one site, with the bytes that are written for it.
-ghost use Rattle.std.specs.Prelude.{◌≡◌, ◌≤◌, ◌<◌, ◌+◌, ◌^◌, ◌++◌, [], ◌∷◌, length, IfOk, OnOk, IfErr, true, slice_index};
+ghost use Rattle.std.specs.Prelude.{◌≡◌, ◌≤◌, ◌<◌, ◌+◌, ◌^◌, ◌++◌, [], ◌∷◌, length, map, All, IfOk, OnOk, IfErr, None, true, slice_index, vec_capacity};
 ghost use Rattle.arrayvec.specs.ArrayVec.{array_vec_len};
 ghost use Rattle.poke_batch.specs.Poke.{spelled};
 ghost use Rattle.poke_batch.specs.Patch.{IsSpelt};
-ghost use Rattle.poke_batch.specs.Clash.{IsPatchable, ClashesAt, held_bytes, holds_old};
+ghost use Rattle.poke_batch.specs.Inside.{change_of};
+ghost use Rattle.poke_batch.specs.Clash.{IsPatchable, ClashesAt, NamesClash, first_clash, held_bytes, holds_old};
 
 use crate::batch::{Clash, Due};
 use insn_forms::{Change, Form, Held};
@@ -32,11 +33,36 @@ impl Patch {
     }
 }
 
+/// Replaces the patches of a list by those of the changes. It has room for them.
+///
+/// # Errors
+/// The first site that holds other bytes than those of its old form.
+pub fn patch_all<T: Held>(
+    patches: &mut Vec<Patch>,
+    changes: &[Change],
+    text: &T,
+) -> Result<(), Clash>
+    requires room { length changes.now ≤ vec_capacity patches.old }
+    requires ready { All (IsPatchable (T.held_byte text.now)) changes.now }
+    ensures capacity { vec_capacity patches.new ≡ vec_capacity patches.old }
+    ensures spelt { All IsSpelt patches.new.items }
+    ensures made { OnOk result (map change_of patches.new.items ≡ changes.now) }
+    ensures no_clash { OnOk result (first_clash (T.held_byte text.now) changes.now ≡ None) }
+    ensures clash { IfErr result (NamesClash (T.held_byte text.now) changes.now) }
+{
+    patches.clear();
+    for change in changes {
+        let patch = patch_of(*change, text)?;
+        patches.push_reserved(patch);
+    }
+    Ok(())
+}
+
 /// The patch of a change of a site that holds the bytes of its old form.
 ///
 /// # Errors
 /// The site holds other bytes.
-pub fn patch_of<T: Held>(change: Change, text: &T) -> Result<Patch, Clash>
+fn patch_of<T: Held>(change: Change, text: &T) -> Result<Patch, Clash>
     requires { IsPatchable (T.held_byte text.now) change }
     ensures change { IfOk result (λ patch. patch.change ≡ change) }
     ensures spelt { IfOk result IsSpelt }
