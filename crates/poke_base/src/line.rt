@@ -12,6 +12,17 @@ pub type Line = ArrayVec<u8, 96>;
 /// The bytes of one instruction: at most 9.
 pub type CodeBytes = ArrayVec<u8, 9>;
 
+/// The bytes of an instruction: the first, and those after it.
+pub fn code_bytes(first: u8, rest: &[u8]) -> CodeBytes
+    requires { length rest.now ≤ 8 }
+    ensures { result.items ≡ first ∷ rest.now }
+{
+    let mut code = CodeBytes::new();
+    code.push(first);
+    let _ = code.try_extend_from_slice(rest);
+    code
+}
+
 /// Adds a text to the line, which has to have room for it.
 pub fn put_text(line: &mut Line, text: &[u8])
     requires { array_vec_len line.old + length text.now ≤ 96 }

@@ -77,10 +77,8 @@ impl MemoryHost {
         ensures outside { outside_of self.new ≡ outside_of self.old }
         ensures numbers { SameNumbers self.old self.new }
     {
-        match self.failing.push(call) {
-            Ok(()) => Ok(()),
-            Err(_) => Err(NoMemory),
-        }
+        self.failing.push(call)?;
+        Ok(())
     }
 
     /// The bytes of a file. `None` exactly where there is no such file.
