@@ -92,7 +92,7 @@ pub fn put_dec(line: &mut Line, n: u64)
 
 #[cfg(test)]
 mod tests {
-    use super::{Line, put_bytes, put_dec, put_hex, put_text};
+    use super::{Line, code_bytes, put_bytes, put_dec, put_hex, put_text};
 
     #[test]
     #[tactic(auto, using(crate::proofs::Numbers::line_room))]
@@ -121,5 +121,9 @@ mod tests {
         put_text(&mut line, b"w ");
         put_bytes(&mut line, &[0xcc, 0x0f, 0]);
         assert_eq!(rt; line.as_slice(), b"w cc0f00".as_slice());
+        assert_eq!(rt;
+            code_bytes(0xeb, &[0x10]).as_slice(),
+            [0xeb, 0x10].as_slice()
+        );
     }
 }

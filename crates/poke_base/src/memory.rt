@@ -193,15 +193,11 @@ fn give(bytes: &[u8], limit: u64, out: &mut Vec<u8>) -> Result<(), ReadFail>
 {
     let len = bytes.len() as u64;
     if len > limit {
-        return match out.extend_from_slice(&bytes[..limit as usize + 1]) {
-            Ok(()) => Err(ReadFail::TooLong),
-            Err(_) => Err(ReadFail::NoMemory),
-        };
+        out.extend_from_slice(&bytes[..limit as usize + 1])?;
+        return Err(ReadFail::TooLong);
     }
-    match out.extend_from_slice(bytes) {
-        Ok(()) => Ok(()),
-        Err(_) => Err(ReadFail::NoMemory),
-    }
+    out.extend_from_slice(bytes)?;
+    Ok(())
 }
 
 impl Host for MemoryHost {
