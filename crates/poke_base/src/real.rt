@@ -182,7 +182,7 @@ mod tests {
         assert_eq!(rt; host.append(&bytes), Ok(()));
         assert_eq!(rt; host.append(b"end"), Ok(()));
         bytes.extend_from_slice(b"end")?;
-        let whole = bytes.len();
+        let whole = LEN + 3;
         let reads: [(usize, Result<(), ReadFail>, usize); 4] = [
             (whole + 1, Ok(()), whole),
             (whole, Ok(()), whole),

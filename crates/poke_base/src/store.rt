@@ -107,7 +107,7 @@ impl Store {
     }
 }
 
-// Adds a piece to the bytes of a file that is there.
+/// Adds a piece to the bytes of a file that is there.
 fn extend(files: &mut BTreeMap<String, Vec<u8>>, name: &str, piece: &[u8]) -> Result<(), NoMemory>
     requires { IsSome (get_by_text files.old name.now) }
     ensures ok { OnOk result (files_in files.new.entries ≡ added (files_in files.old.entries) name.now piece.now) }

@@ -136,6 +136,9 @@ mod tests {
         }
     }
 
+    /// More than three buffers.
+    const LEN: usize = 3 * BUFFER_LEN + 1;
+
     /// Bytes that differ from one buffer to the next.
     fn pattern(alloc: Global, len: usize) -> Result<Vec<u8>, Fail> {
         let mut bytes = Vec::new(alloc);
@@ -147,13 +150,12 @@ mod tests {
 
     #[test]
     fn reads_within_a_limit(rt: HostRuntime) -> Result<(), Fail> {
-        let bytes = pattern(rt.alloc(), 3 * BUFFER_LEN + 1)?;
-        let len = bytes.len();
+        let bytes = pattern(rt.alloc(), LEN)?;
         let reads: [(u64, Result<(), ReadFail>, usize); 6] = [
-            (u64::MAX, Ok(()), len),
-            (len as u64 + 1, Ok(()), len),
-            (len as u64, Ok(()), len),
-            (len as u64 - 1, Err(ReadFail::TooLong), len),
+            (u64::MAX, Ok(()), LEN),
+            (LEN as u64 + 1, Ok(()), LEN),
+            (LEN as u64, Ok(()), LEN),
+            (LEN as u64 - 1, Err(ReadFail::TooLong), LEN),
             (4096, Err(ReadFail::TooLong), 4097),
             (0, Err(ReadFail::TooLong), 1),
         ];
