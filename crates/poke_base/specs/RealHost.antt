@@ -1,5 +1,5 @@
 -- What the host of a running program tells.
-use Rattle.std.specs.Prelude.{ℕ, List, Option, None, Some, Result, IsSomeAnd, IfSome, option_map, string_bytes}
+use Rattle.std.specs.Prelude.{ℕ, List, Option, None, Result, IsSomeAnd, IfSome, option_map, string_bytes}
 use Rattle.poke_base.specs.declared.real.RealHost.{RealHost}
 use Rattle.poke_base.specs.Host.{Outside}
 use Rattle.poke_base.specs.Written.{Writes}

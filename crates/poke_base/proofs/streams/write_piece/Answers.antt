@@ -1,4 +1,4 @@
-use Rattle.std.proofs.Common.{◌≡◌, ◌∙◌, ap, ◌-◌, ◌++◌, length, take, drop, append_assoc}
+use Rattle.std.proofs.Common.{◌∙◌, ap, ◌-◌, ◌++◌, length, take, drop, append_assoc}
 use Rattle.poke_base.proofs.KnownBytes.{Appends-more, parted}
 use Rattle.poke_base.proofs.streams.write_piece.Goals as goal
 
