@@ -6,7 +6,7 @@ use Rattle.std.proofs.lemmas.List.{length-append}
 use Rattle.elf_build.specs.declared.plan.PlanSite.{PlanSite}
 use Rattle.elf_build.specs.declared.plan.Plan.{Plan}
 use Rattle.elf_build.specs.declared.sections.Part.{Part}
-use Rattle.elf_build.specs.File.{content_of, filled, header_of, headers_from, laid, section_header, table_from}
+use Rattle.elf_build.specs.File.{part_bytes, filled, header_of, headers_from, laid, section_header, table_from}
 
 -- two additions
 pub appended-twice : {T E : Type 0} (old a b middle new : List ℕ) (result : Result T E) → middle ≡ old ++ a → OnOk result (new ≡ middle ++ b) → OnOk result (new ≡ old ++ (a ++ b))
@@ -45,16 +45,16 @@ entry-more entry at start i sites d out new whole below longer before is =
     ∙ before
 
 -- one section more
-pub laid-more : (plan : Plan) (parts : List Part) (i : ℕ) (d : Part) (out new whole : List ℕ) → i < length parts → laid plan out (drop i parts) ≡ whole → new ≡ filled out ++ content_of plan (slice_index_or parts i d) → laid plan new (drop (i + 1) parts) ≡ whole
+pub laid-more : (plan : Plan) (parts : List Part) (i : ℕ) (d : Part) (out new whole : List ℕ) → i < length parts → laid plan out (drop i parts) ≡ whole → new ≡ filled out ++ part_bytes plan (slice_index_or parts i d) → laid plan new (drop (i + 1) parts) ≡ whole
 laid-more plan parts i d out new whole below before is =
     ap (λ (file : List ℕ). laid plan file (drop (i + 1) parts)) is ∙ sym (at_drop_more (laid plan out) parts i d below) ∙ before
 
 -- one section header more
-pub headers-more : (plan : Plan) (parts : List Part) (i : ℕ) (d : Part) (out new headers more whole : List ℕ) → i < length parts → headers ++ headers_from plan out (drop i parts) ≡ whole → new ≡ filled out ++ content_of plan (slice_index_or parts i d) → more ≡ headers ++ section_header (header_of plan (slice_index_or parts i d)) (length (filled out)) (length (content_of plan (slice_index_or parts i d))) → more ++ headers_from plan new (drop (i + 1) parts) ≡ whole
+pub headers-more : (plan : Plan) (parts : List Part) (i : ℕ) (d : Part) (out new headers more whole : List ℕ) → i < length parts → headers ++ headers_from plan out (drop i parts) ≡ whole → new ≡ filled out ++ part_bytes plan (slice_index_or parts i d) → more ≡ headers ++ section_header (header_of plan (slice_index_or parts i d)) (length (filled out)) (length (part_bytes plan (slice_index_or parts i d))) → more ++ headers_from plan new (drop (i + 1) parts) ≡ whole
 headers-more plan parts i d out new headers more whole below before is adds =
     let part = slice_index_or parts i d in
-    let header = section_header (header_of plan part) (length (filled out)) (length (content_of plan part)) in
-    let rest = headers_from plan (filled out ++ content_of plan part) (drop (i + 1) parts) in
+    let header = section_header (header_of plan part) (length (filled out)) (length (part_bytes plan part)) in
+    let rest = headers_from plan (filled out ++ part_bytes plan part) (drop (i + 1) parts) in
     ap (λ (file : List ℕ). more ++ headers_from plan file (drop (i + 1) parts)) is ∙ ap (λ (xs : List ℕ). xs ++ rest) adds
     ∙ append_assoc headers header rest
     ∙ sym (at_drop_more (λ (r : List Part). headers ++ headers_from plan out r) parts i d below)
@@ -80,5 +80,5 @@ three-longer a b c d first second third = omega arith
 pub laid-longer : (plan : Plan) (parts : List Part) (out : List ℕ) → length out ≤ length (laid plan out parts)
 laid-longer plan [] out = filled-longer out
 laid-longer plan (part ∷ parts) out =
-    three-longer (length out) (length (filled out)) (length (filled out ++ content_of plan part)) (length (laid plan (filled out ++ content_of plan part) parts))
-    (filled-longer out) (longer-by (filled out) (content_of plan part)) (laid-longer plan parts (filled out ++ content_of plan part))
+    three-longer (length out) (length (filled out)) (length (filled out ++ part_bytes plan part)) (length (laid plan (filled out ++ part_bytes plan part) parts))
+    (filled-longer out) (longer-by (filled out) (part_bytes plan part)) (laid-longer plan parts (filled out ++ part_bytes plan part))

@@ -1,3 +1,4 @@
 pub mod Fits
+pub mod Gabi
 pub mod File
 pub mod Generated

@@ -1,52 +1,35 @@
 //! What stands in the sections of a written module.
 ghost use Rattle.std.specs.Prelude.{◌≡◌, ◌≤◌, ◌<◌, ◌+◌, ◌*◌, ◌-◌, ◌^◌, ◌++◌, ◌∷◌, [], replicate, length, true, IfOk, OnOk};
 ghost use Rattle.elf_build.specs.Fits.{fits, has_place, is_small, site_fits};
-ghost use Rattle.elf_build.specs.File.{data_of, entry_bytes, filled, function_symbols, key_at, named_symbols, key_symbols, symbols_of, table_bytes, names_of, names_of_functions, names_of_keys};
+ghost use Rattle.elf_build.specs.File.{data_of, entry_bytes, filled, function_symbols, key_at, named_symbols, key_symbols, symbol_table, table_bytes, names_of, names_of_functions, names_of_keys};
 
-use crate::sections::symbol;
-use crate::tables::{Table, call_record, data_at, jump_record, start_record, table_at};
+use crate::gabi::{GLOBAL_FUNC, GLOBAL_OBJECT};
+use crate::sections::{DATA_SECTION, TEXT_SECTION, symbol};
+use crate::tables::{KEY_SIZE, PlanTable, call_record, data_at, jump_record, start_record, table_at};
 use crate::{Name, Plan, PlanFunction, PlanKey, PlanSite};
 use poke_base::NoMemory;
-
-/// What the symbols of functions and of keys say of their type: global, of type FUNC and OBJECT
-/// (System V gABI: symbol table).
-const GLOBAL_FUNC: u8 = 0x12;
-
-const GLOBAL_OBJECT: u8 = 0x11;
-
-/// The indices of `.text` and `.data`.
-const TEXT_SECTION: u16 = 1;
-
-const DATA_SECTION: u16 = 5;
-
-/// How many bytes a key has.
-const KEY_SIZE: u64 = 16;
 
 /// Adds bytes.
 pub fn add(out: &mut Vec<u8>, bytes: &[u8]) -> Result<(), NoMemory>
     ensures { OnOk result (out.new.items ≡ out.old.items ++ bytes.now) }
 {
-    match out.extend_from_slice(bytes) {
-        Ok(()) => Ok(()),
-        Err(_) => Err(NoMemory),
-    }
+    out.extend_from_slice(bytes)?;
+    Ok(())
 }
 
 /// Adds zeros up to the next multiple of 16.
 pub fn fill(out: &mut Vec<u8>) -> Result<(), NoMemory>
     ensures { OnOk result (out.new.items ≡ filled out.old.items) }
 {
-    match out.resize(out.len().next_multiple_of(16), 0) {
-        Ok(()) => Ok(()),
-        Err(_) => Err(NoMemory),
-    }
+    out.resize(out.len().next_multiple_of(16), 0)?;
+    Ok(())
 }
 
 /// Adds the entry of a table, at its address, for a site; one of another kind has none.
 fn add_entry(
     out: &mut Vec<u8>,
     plan: &Plan,
-    table: Table,
+    table: PlanTable,
     field: u64,
     site: &PlanSite,
 ) -> Result<(), NoMemory>
@@ -60,7 +43,7 @@ fn add_entry(
 {
     match (table, *site) {
         (
-            Table::Jumps,
+            PlanTable::Jumps,
             PlanSite::Jump {
                 at,
                 target,
@@ -73,19 +56,19 @@ fn add_entry(
                 &jump_record(field, at, target, key_at(plan, key) + u64::from(likely)),
             )
         }
-        (Table::Calls, PlanSite::Call { at, key, tail }) => {
+        (PlanTable::Calls, PlanSite::Call { at, key, tail }) => {
             add(
                 out,
                 &call_record(field, at, key_at(plan, key) + u64::from(tail)),
             )
         }
-        (Table::Traces, PlanSite::Trace { at }) => add(out, &at.to_le_bytes()),
+        (PlanTable::Traces, PlanSite::Trace { at }) => add(out, &at.to_le_bytes()),
         _ => Ok(()),
     }
 }
 
 /// Adds the entries of a table, in the order of the sites.
-pub fn add_table(out: &mut Vec<u8>, plan: &Plan, table: Table) -> Result<(), NoMemory>
+pub fn add_table(out: &mut Vec<u8>, plan: &Plan, table: PlanTable) -> Result<(), NoMemory>
     requires { fits plan.now ≡ true }
     ensures { OnOk result (out.new.items ≡ out.old.items ++ table_bytes table plan.now) }
 {
@@ -158,7 +141,7 @@ fn add_key_symbols(out: &mut Vec<u8>, first: u32, at: u64, keys: &[PlanKey]) -> 
 /// Adds the symbols: one of zeros, the functions, and the keys.
 pub fn add_symbols(out: &mut Vec<u8>, plan: &Plan) -> Result<(), NoMemory>
     requires { fits plan.now ≡ true }
-    ensures { OnOk result (out.new.items ≡ out.old.items ++ symbols_of plan.now) }
+    ensures { OnOk result (out.new.items ≡ out.old.items ++ symbol_table plan.now) }
 {
     add(out, &symbol(0, 0, 0, 0, 0))?;
     add_named_symbols(out, plan)

@@ -1,12 +1,12 @@
 //! Writing a module.
 ghost use Rattle.std.specs.Prelude.{◌≡◌, ◌≤◌, ◌+◌, ◌*◌, ◌++◌, [], drop, length, replicate, true, OnOk, OnErr};
 ghost use Rattle.elf_build.specs.Fits.{fits};
-ghost use Rattle.elf_build.specs.File.{body, content_of, elf_header, file_of, filled, headers_from, laid, parts, section_header, header_of};
+ghost use Rattle.elf_build.specs.File.{body, part_bytes, elf_header, file_of, filled, headers_from, laid, parts, section_header, header_of};
 
 use crate::Plan;
 use crate::contents::{add, add_data, add_names, add_symbols, add_table, fill};
 use crate::sections::{Header, Part, elf_header};
-use crate::tables::Table;
+use crate::tables::PlanTable;
 use arrayvec::ArrayVec;
 use poke_base::NoMemory;
 
@@ -24,9 +24,9 @@ fn parts() -> [Part; 8]
 {
     [
         Part::Text,
-        Part::Entries(Table::Jumps),
-        Part::Entries(Table::Calls),
-        Part::Entries(Table::Traces),
+        Part::Entries(PlanTable::Jumps),
+        Part::Entries(PlanTable::Calls),
+        Part::Entries(PlanTable::Traces),
         Part::Data,
         Part::Symbols,
         Part::Names,
@@ -37,7 +37,7 @@ fn parts() -> [Part; 8]
 /// Adds what stands in a section.
 fn add_content(out: &mut Vec<u8>, plan: &Plan, part: Part) -> Result<(), NoMemory>
     requires { fits plan.now ≡ true }
-    ensures { OnOk result (out.new.items ≡ out.old.items ++ content_of plan.now part) }
+    ensures { OnOk result (out.new.items ≡ out.old.items ++ part_bytes plan.now part) }
 {
     match part {
         Part::Text => add(out, &plan.text),
@@ -58,8 +58,8 @@ fn add_part(
 ) -> Result<(), NoMemory>
     requires fits { fits plan.now ≡ true }
     requires room { length headers.old.items ≤ 448 }
-    ensures content { OnOk result (out.new.items ≡ filled out.old.items ++ content_of plan.now part) }
-    ensures header { OnOk result (headers.new.items ≡ headers.old.items ++ section_header (header_of plan.now part) (length (filled out.old.items)) (length (content_of plan.now part))) }
+    ensures content { OnOk result (out.new.items ≡ filled out.old.items ++ part_bytes plan.now part) }
+    ensures header { OnOk result (headers.new.items ≡ headers.old.items ++ section_header (header_of plan.now part) (length (filled out.old.items)) (length (part_bytes plan.now part))) }
     ensures room { OnOk result (length headers.new.items ≡ length headers.old.items + 64) }
 {
     fill(out)?;

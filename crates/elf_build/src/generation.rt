@@ -286,8 +286,6 @@ fn name(bytes: &[u8]) -> Name
 fn push<T: Drop>(out: &mut Vec<T>, item: T) -> Result<(), NoMemory>
     ensures { OnOk result (out.new.items ≡ out.old.items ++ item ∷ []) }
 {
-    match out.push(item) {
-        Ok(()) => Ok(()),
-        Err(_) => Err(NoMemory),
-    }
+    out.push(item)?;
+    Ok(())
 }

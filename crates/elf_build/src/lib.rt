@@ -3,6 +3,7 @@
 
 mod contents;
 mod file;
+mod gabi;
 mod generation;
 pub mod plan;
 mod put;

@@ -9,7 +9,7 @@ use arrayvec::ArrayVec;
 pub type Name = ArrayVec<u8, 64>;
 
 /// What a module is to hold. Addresses lie in the text, which begins at `base`.
-#[derive(Drop)]
+#[derive(Debug, PartialEq, Eq, Drop)]
 pub struct Plan {
     /// The address of the text.
     pub base: u64,

@@ -1,10 +1,29 @@
 //! The sections of a written module, their headers, and the ELF header.
 ghost use Rattle.std.specs.Prelude.{◌≡◌, ◌<◌, ◌+◌, ◌^◌, length};
-ghost use Rattle.elf_build.specs.File.{elf_header, header_of, loaded, section_header, strings, symbol};
+ghost use Rattle.elf_build.specs.File.{elf_header, header_of, loaded_header, section_header, strings_header, symbol};
 
 use crate::Plan;
+use crate::gabi::{
+    EHDR_SIZE, ELFCLASS64, ELFDATA2LSB, EM_X86_64, ET_EXEC, EV_CURRENT, SHDR_SIZE, SHF_ALLOC, SHF_EXECINSTR,
+    SHF_WRITE, SHT_PROGBITS, SHT_STRTAB, SHT_SYMTAB, SYM_SIZE,
+};
 use crate::put::{Record, put, put_u16, put_u32, put_u64};
-use crate::tables::{Table, data_at, table_at};
+use crate::tables::{PlanTable, data_at, table_at};
+
+/// The indices of the sections that others name.
+pub const TEXT_SECTION: u16 = 1;
+
+pub const DATA_SECTION: u16 = 5;
+
+const NAMES_SECTION: u32 = 7;
+
+const SECTION_NAMES_SECTION: u16 = 8;
+
+/// How many sections there are, with the first, which is none.
+const SECTION_COUNT: u16 = 9;
+
+/// Each section begins at a multiple of this.
+const ALIGNMENT: u64 = 16;
 
 /// A section but the first.
 #[derive(Clone, Copy, Debug, PartialEq, Eq)]
@@ -12,7 +31,7 @@ pub enum Part {
     /// `.text`
     Text,
     /// The entries of a table.
-    Entries(Table),
+    Entries(PlanTable),
     /// `.data`, where the keys stand.
     Data,
     /// `.symtab`
@@ -40,11 +59,11 @@ pub struct Header {
 impl Header {
     /// The header of a section that is loaded at an address.
     fn loaded(name: u32, flags: u64, addr: u64) -> Header
-        ensures { result ≡ loaded name flags addr }
+        ensures { result ≡ loaded_header name flags addr }
     {
         Header {
             name,
-            kind: 1,
+            kind: SHT_PROGBITS,
             flags,
             addr,
             link: 0,
@@ -55,11 +74,11 @@ impl Header {
 
     /// The header of a string table.
     fn strings(name: u32) -> Header
-        ensures { result ≡ strings name }
+        ensures { result ≡ strings_header name }
     {
         Header {
             name,
-            kind: 3,
+            kind: SHT_STRTAB,
             flags: 0,
             addr: 0,
             link: 0,
@@ -74,19 +93,19 @@ impl Header {
         ensures { result ≡ header_of plan.now part }
     {
         match part {
-            Part::Text => Header::loaded(1, 6, plan.base),
-            Part::Entries(Table::Jumps) => Header::loaded(7, 3, table_at(plan, Table::Jumps)),
-            Part::Entries(Table::Calls) => Header::loaded(20, 3, table_at(plan, Table::Calls)),
-            Part::Entries(Table::Traces) => Header::loaded(39, 2, table_at(plan, Table::Traces)),
-            Part::Data => Header::loaded(52, 3, data_at(plan)),
+            Part::Text => Header::loaded(1, SHF_ALLOC | SHF_EXECINSTR, plan.base),
+            Part::Entries(PlanTable::Jumps) => Header::loaded(7, SHF_ALLOC | SHF_WRITE, table_at(plan, PlanTable::Jumps)),
+            Part::Entries(PlanTable::Calls) => Header::loaded(20, SHF_ALLOC | SHF_WRITE, table_at(plan, PlanTable::Calls)),
+            Part::Entries(PlanTable::Traces) => Header::loaded(39, SHF_ALLOC, table_at(plan, PlanTable::Traces)),
+            Part::Data => Header::loaded(52, SHF_ALLOC | SHF_WRITE, data_at(plan)),
             Part::Symbols => Header {
                 name: 58,
-                kind: 2,
+                kind: SHT_SYMTAB,
                 flags: 0,
                 addr: 0,
-                link: 7,
+                link: NAMES_SECTION,
                 info: 1,
-                entsize: 24,
+                entsize: SYM_SIZE,
             },
             Part::Names => Header::strings(66),
             Part::SectionNames => Header::strings(74),
@@ -107,7 +126,7 @@ impl Header {
         put_u64(&mut out, size);
         put_u32(&mut out, self.link);
         put_u32(&mut out, self.info);
-        put_u64(&mut out, 16);
+        put_u64(&mut out, ALIGNMENT);
         put_u64(&mut out, self.entsize);
         out
     }
@@ -120,20 +139,23 @@ pub fn elf_header(shoff: u64) -> Record
     ensures len { length result.items ≡ 64 }
 {
     let mut out = Record::new();
-    put(&mut out, &[0x7f, 0x45, 0x4c, 0x46, 2, 1, 1, 0]);
+    put(
+        &mut out,
+        &[0x7f, b'E', b'L', b'F', ELFCLASS64, ELFDATA2LSB, EV_CURRENT, 0],
+    );
     put_u64(&mut out, 0);
-    put_u16(&mut out, 2);
-    put_u16(&mut out, 62);
-    put_u32(&mut out, 1);
+    put_u16(&mut out, ET_EXEC);
+    put_u16(&mut out, EM_X86_64);
+    put_u32(&mut out, u32::from(EV_CURRENT));
     put_u64(&mut out, 0);
     put_u64(&mut out, 0);
     put_u64(&mut out, shoff);
     put_u32(&mut out, 0);
-    put_u16(&mut out, 64);
+    put_u16(&mut out, EHDR_SIZE);
     put_u32(&mut out, 0);
-    put_u16(&mut out, 64);
-    put_u16(&mut out, 9);
-    put_u16(&mut out, 8);
+    put_u16(&mut out, SHDR_SIZE);
+    put_u16(&mut out, SECTION_COUNT);
+    put_u16(&mut out, SECTION_NAMES_SECTION);
     out
 }
 

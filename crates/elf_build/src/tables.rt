@@ -8,7 +8,7 @@ use crate::{KeyStart, Plan};
 
 /// Which table of a module.
 #[derive(Clone, Copy, Debug, PartialEq, Eq)]
-pub enum Table {
+pub enum PlanTable {
     /// `__jump_table`
     Jumps,
     /// `.static_call_sites`
@@ -84,7 +84,10 @@ pub fn call_record(field: u64, at: u64, key: u64) -> Record
     out
 }
 
-/// Where the tables and the keys stand after the text's address.
+/// How many bytes a key has.
+pub const KEY_SIZE: u64 = 16;
+
+/// How far from the text's address the tables and the keys stand.
 const JUMPS: u64 = 0x2_0000;
 
 const CALLS: u64 = 0x3_0000;
@@ -94,14 +97,14 @@ const TRACES: u64 = 0x4_0000;
 const KEYS: u64 = 0x5_0000;
 
 /// The address of a table.
-pub fn table_at(plan: &Plan, table: Table) -> u64
+pub fn table_at(plan: &Plan, table: PlanTable) -> u64
     requires { plan.now.base + 0x50000 < 2 ^ 64 }
     ensures { result ≡ table_at table plan.now }
 {
     match table {
-        Table::Jumps => plan.base + JUMPS,
-        Table::Calls => plan.base + CALLS,
-        Table::Traces => plan.base + TRACES,
+        PlanTable::Jumps => plan.base + JUMPS,
+        PlanTable::Calls => plan.base + CALLS,
+        PlanTable::Traces => plan.base + TRACES,
     }
 }
 

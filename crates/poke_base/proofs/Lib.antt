@@ -3,3 +3,4 @@ pub mod WordLemmas
 pub mod Files
 pub mod Listed
 pub mod Outsides
+pub mod KnownBytes

@@ -1,5 +1,9 @@
 //! The outside of a program: files, standard output and standard error.
 
+ghost use Rattle.std.specs.Prelude.{◌≡◌};
+ghost use Rattle.poke_base.specs.declared.host.ReadFail.TheVariants.{NoMemory as no_memory};
+
+use std::alloc::AllocError;
 use thiserror::Error;
 
 /// Which call was handed a file's name.
@@ -23,6 +27,14 @@ pub enum ReadFail {
     NoMemory,
 }
 
+impl From<AllocError> for ReadFail {
+    ghost from_gives = { λ _ why. why ≡ no_memory };
+
+    fn from(_failed: AllocError) -> ReadFail {
+        ReadFail::NoMemory
+    }
+}
+
 /// A file wasn't made, or not all of a piece was written.
 #[derive(Clone, Copy, Debug, PartialEq, Eq, Error)]
 #[error("write failed")]
@@ -34,7 +46,7 @@ pub struct WriteFail;
 /// calls say of contents holds where they are told. No call lets a count fall, and each changes at
 /// most the count of its own kind. A failed call may have done a part of its work.
 pub trait Host {
-    ghost use Rattle.std.specs.Prelude.{◌≡◌, [], IsSome};
+    ghost use Rattle.std.specs.Prelude.{[], IsSome};
     ghost use Rattle.poke_base.specs.Host.{Outside, ReadsFile, MakesFile, Appends, Prints, Complains};
 
     /// The files, the file being made, the texts, the names asked, and the counts of failures.

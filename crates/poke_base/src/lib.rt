@@ -8,13 +8,15 @@ pub mod memory;
 pub mod number;
 pub mod real;
 mod store;
+mod streams;
 pub mod words;
 
 pub use host::{AskedBy, Host, ReadFail, WriteFail};
-pub use line::{CodeBytes, Line, put_bytes, put_dec, put_hex, put_text};
+pub use line::{CodeBytes, Line, code_bytes, put_bytes, put_dec, put_hex, put_text};
 pub use memory::MemoryHost;
 pub use number::{read_dec, read_hex};
 pub use real::RealHost;
+use std::alloc::{AllocError, AllocFailed};
 use thiserror::Error;
 pub use words::next_word;
 
@@ -22,3 +24,15 @@ pub use words::next_word;
 #[derive(Clone, Copy, Debug, PartialEq, Eq, Error)]
 #[error("no memory")]
 pub struct NoMemory;
+
+impl From<AllocError> for NoMemory {
+    fn from(_failed: AllocError) -> NoMemory {
+        NoMemory
+    }
+}
+
+impl<T: Drop> From<AllocFailed<T>> for NoMemory {
+    fn from(_failed: AllocFailed<T>) -> NoMemory {
+        NoMemory
+    }
+}

@@ -12,6 +12,17 @@ pub type Line = ArrayVec<u8, 96>;
 /// The bytes of one instruction: at most 9.
 pub type CodeBytes = ArrayVec<u8, 9>;
 
+/// The bytes of an instruction: the first, and those after it.
+pub fn code_bytes(first: u8, rest: &[u8]) -> CodeBytes
+    requires { length rest.now ≤ 8 }
+    ensures { result.items ≡ first ∷ rest.now }
+{
+    let mut code = CodeBytes::new();
+    code.push(first);
+    let _ = code.try_extend_from_slice(rest);
+    code
+}
+
 /// Adds a text to the line, which has to have room for it.
 pub fn put_text(line: &mut Line, text: &[u8])
     requires { array_vec_len line.old + length text.now ≤ 96 }
@@ -81,7 +92,7 @@ pub fn put_dec(line: &mut Line, n: u64)
 
 #[cfg(test)]
 mod tests {
-    use super::{Line, put_bytes, put_dec, put_hex, put_text};
+    use super::{Line, code_bytes, put_bytes, put_dec, put_hex, put_text};
 
     #[test]
     #[tactic(auto, using(crate::proofs::Numbers::line_room))]
@@ -110,5 +121,9 @@ mod tests {
         put_text(&mut line, b"w ");
         put_bytes(&mut line, &[0xcc, 0x0f, 0]);
         assert_eq!(rt; line.as_slice(), b"w cc0f00".as_slice());
+        assert_eq!(rt;
+            code_bytes(0xeb, &[0x10]).as_slice(),
+            [0xeb, 0x10].as_slice()
+        );
     }
 }

@@ -77,10 +77,8 @@ impl MemoryHost {
         ensures outside { outside_of self.new ≡ outside_of self.old }
         ensures numbers { SameNumbers self.old self.new }
     {
-        match self.failing.push(call) {
-            Ok(()) => Ok(()),
-            Err(_) => Err(NoMemory),
-        }
+        self.failing.push(call)?;
+        Ok(())
     }
 
     /// The bytes of a file. `None` exactly where there is no such file.
@@ -111,7 +109,7 @@ impl MemoryHost {
         self.starved
     }
 
-    // Gives the call that begins its number, and says whether it stands on the list.
+    /// Gives the call that begins its number, and says whether it stands on the list.
     fn begin(&mut self) -> bool
         ensures listed { IsTrue result ↔ IsListed self.old }
         ensures same { self.new ≡ record self.old { calls = one_more self.old.calls } }
@@ -120,14 +118,14 @@ impl MemoryHost {
         self.failing.contains(&self.calls)
     }
 
-    // Counts that the host found no memory for what it keeps.
+    /// Counts that the host found no memory for what it keeps.
     fn starve(&mut self)
         ensures { self.new ≡ record self.old { starved = one_more self.old.starved } }
     {
         self.starved = self.starved.saturating_add(1);
     }
 
-    // Keeps the name that a call was handed.
+    /// Keeps the name that a call was handed.
     fn ask(&mut self, name: &str, by: AskedBy) -> Result<(), NoMemory>
         ensures names { OnOk result (names_of self.new.asked.items ≡ names_of self.old.asked.items ++ (name.now, by) ∷ []) }
         ensures ok { OnOk result (self.new ≡ record self.old { asked = self.new.asked }) }
@@ -148,7 +146,7 @@ impl MemoryHost {
         Ok(())
     }
 
-    // Counts a failed read.
+    /// Counts a failed read.
     fn read_fault(&mut self) -> ReadFail
         ensures fail { result ≡ ReadFail.Failed }
         ensures same { self.new ≡ record self.old { read_faults = one_more self.old.read_faults } }
@@ -158,7 +156,7 @@ impl MemoryHost {
         ReadFail::Failed
     }
 
-    // Counts a failed write.
+    /// Counts a failed write.
     fn write_fault(&mut self) -> WriteFail
         ensures same { self.new ≡ record self.old { write_faults = one_more self.old.write_faults } }
         ensures grows { self.old.write_faults ≤ self.new.write_faults }
@@ -167,7 +165,7 @@ impl MemoryHost {
         WriteFail
     }
 
-    // Counts a failed complaint.
+    /// Counts a failed complaint.
     fn complain_fault(&mut self) -> WriteFail
         ensures same { self.new ≡ record self.old { complain_faults = one_more self.old.complain_faults } }
         ensures grows { self.old.complain_faults ≤ self.new.complain_faults }
@@ -177,7 +175,7 @@ impl MemoryHost {
     }
 }
 
-// What a call adds of its piece: half of it where its number is on the list.
+/// What a call adds of its piece: half of it where its number is on the list.
 fn attempted(piece: &[u8], listed: bool) -> &[u8]
     ensures { result.now ≡ (if listed then take (length piece.now / 2) piece.now else piece.now) }
 {
@@ -188,22 +186,18 @@ fn attempted(piece: &[u8], listed: bool) -> &[u8]
     }
 }
 
-// Gives a file's bytes to a caller that allows this many, or one more than that.
+/// Gives a file's bytes to a caller that allows this many, or one more than that.
 fn give(bytes: &[u8], limit: u64, out: &mut Vec<u8>) -> Result<(), ReadFail>
     requires { out.old.items ≡ [] }
     ensures { Gives bytes.now limit out.new.items result }
 {
     let len = bytes.len() as u64;
     if len > limit {
-        return match out.extend_from_slice(&bytes[..limit as usize + 1]) {
-            Ok(()) => Err(ReadFail::TooLong),
-            Err(_) => Err(ReadFail::NoMemory),
-        };
+        out.extend_from_slice(&bytes[..limit as usize + 1])?;
+        return Err(ReadFail::TooLong);
     }
-    match out.extend_from_slice(bytes) {
-        Ok(()) => Ok(()),
-        Err(_) => Err(ReadFail::NoMemory),
-    }
+    out.extend_from_slice(bytes)?;
+    Ok(())
 }
 
 impl Host for MemoryHost {

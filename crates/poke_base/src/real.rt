@@ -1,19 +1,23 @@
-//! The host of a running program: the files, standard output and standard error of its runtime.
+//! The host of a running program: the files of its runtime, and what stands for standard output and standard
+//! error.
 //!
-//! What the system gives and takes stands in no contract, so this host tells no contents. Its counts
-//! and the name of the file being made are its own.
-ghost use Rattle.std.specs.Prelude.{◌≡◌, ◌≤◌, ◌+◌, [], vec_len};
+//! Which bytes a file of the system has stands in no contract, so this host tells no contents as a `Host`. What
+//! its calls do to writers that tell what they hold, its own clauses say.
+ghost use Rattle.std.specs.Prelude.{◌≡◌, ◌≤◌};
 ghost use Rattle.poke_base.specs.MemoryHost.{one_more};
 
+use crate::streams::{read_within, write_piece};
 use crate::{Host, ReadFail, WriteFail};
-use std::io::{Read, Write};
-use std::rt::Files;
-use std::{fs, io, str};
+use std::fs;
+use std::io::Write;
+use std::rt::{Files, HostRuntime, Stderr, Stdout};
 
-/// The host of a running program, over its runtime.
+/// The host of a running program, over a runtime with its files, and the writers that it prints and complains to.
 #[derive(Drop)]
-pub struct RealHost<R: Files> {
+pub struct RealHost<R: Files, O, E> {
     rt: R,
+    output: O,
+    errors: E,
     file: Option<R::File>,
     making: Option<String>,
     read_faults: u64,
@@ -21,15 +25,30 @@ pub struct RealHost<R: Files> {
     complain_faults: u64,
 }
 
-impl<R: Files> RealHost<R> {
+impl<'a> RealHost<&'a HostRuntime, Stdout, Stderr> {
     ghost use Rattle.poke_base.specs.RealHost.{real_outside, untold_outside};
 
-    /// A host with no file being made and no failures.
-    pub fn new(rt: R) -> Self
+    /// The host of a program: the files, standard output and standard error of its runtime.
+    pub fn new(rt: &'a HostRuntime) -> Self
         ensures { real_outside result ≡ untold_outside }
+    {
+        RealHost::over(rt, rt.stdout(), rt.stderr())
+    }
+}
+
+impl<R: Files, O: Write, E: Write> RealHost<R, O, E> {
+    ghost use Rattle.poke_base.specs.RealHost.{real_outside, untold_outside, output_of, errors_of};
+
+    /// A host over a runtime and two writers, with no file being made and no failures.
+    pub fn over(rt: R, output: O, errors: E) -> Self
+        ensures outside { real_outside result ≡ untold_outside }
+        ensures output { output_of result ≡ output }
+        ensures errors { errors_of result ≡ errors }
     {
         RealHost {
             rt,
+            output,
+            errors,
             file: None,
             making: None,
             read_faults: 0,
@@ -38,7 +57,7 @@ impl<R: Files> RealHost<R> {
         }
     }
 
-    // Counts a failed read.
+    /// Counts a failed read.
     fn read_fault(&mut self) -> ReadFail
         ensures fail { result ≡ ReadFail.Failed }
         ensures same { self.new ≡ record self.old { read_faults = one_more self.old.read_faults } }
@@ -48,7 +67,7 @@ impl<R: Files> RealHost<R> {
         ReadFail::Failed
     }
 
-    // Counts a failed write.
+    /// Counts a failed write.
     fn write_fault(&mut self) -> WriteFail
         ensures same { self.new ≡ record self.old { write_faults = one_more self.old.write_faults } }
         ensures grows { self.old.write_faults ≤ self.new.write_faults }
@@ -57,7 +76,7 @@ impl<R: Files> RealHost<R> {
         WriteFail
     }
 
-    // Counts a failed complaint.
+    /// Counts a failed complaint.
     fn complain_fault(&mut self) -> WriteFail
         ensures same { self.new ≡ record self.old { complain_faults = one_more self.old.complain_faults } }
         ensures grows { self.old.complain_faults ≤ self.new.complain_faults }
@@ -67,41 +86,11 @@ impl<R: Files> RealHost<R> {
     }
 }
 
-// Reads to the end, or until `out` has as many bytes as are wanted at most.
-fn read_up_to<F: Read>(file: &mut F, most: u64, out: &mut Vec<u8>) -> Result<(), ReadFail>
-    requires { out.old.items ≡ [] }
-    ensures { vec_len out.new ≤ most }
-{
-    let mut buffer = [0u8; 4096];
-    'reads: for _ in 0..u64::MAX {
-        let wanted = (most - out.len() as u64).min(4096) as usize;
-        match file.read(&mut buffer[..wanted]) {
-            Ok(0) => return Ok(()),
-            Ok(count) => {
-                if out.extend_from_slice(&buffer[..count]).is_err() {
-                    return Err(ReadFail::NoMemory);
-                }
-            }
-            Err(_) => return Err(ReadFail::Failed),
-        }
-    }
-    Err(ReadFail::Failed)
-}
-
-// Writes a whole piece. A write that takes nothing of it is a failure.
-fn write_piece<W: Write>(to: &mut W, piece: &[u8]) -> Result<(), WriteFail> {
-    let mut rest = piece;
-    while !rest.is_empty() {
-        match to.write(rest) {
-            Ok(0) | Err(_) => return Err(WriteFail),
-            Ok(count) => rest = &rest[count..],
-        }
-    }
-    Ok(())
-}
-
-impl<R: Files + Print + Eprint + AllocGlobal> Host for RealHost<R> {
-    ghost use Rattle.poke_base.specs.RealHost.{real_outside};
+impl<R: Files + AllocGlobal, O: Write, E: Write> Host for RealHost<R, O, E> {
+    ghost use Rattle.std.specs.Prelude.{[], IsSome, OnOk};
+    ghost use Rattle.poke_base.specs.Host.{MakesFile, Appends, Prints, Complains};
+    ghost use Rattle.poke_base.specs.Written.{Writes};
+    ghost use Rattle.poke_base.specs.RealHost.{real_outside, output_of, errors_of, file_of, WritesFile};
 
     ghost outside = { real_outside };
 
@@ -109,18 +98,16 @@ impl<R: Files + Print + Eprint + AllocGlobal> Host for RealHost<R> {
         let Ok(mut file) = fs::open(&self.rt, name) else {
             return Err(self.read_fault());
         };
-        match read_up_to(&mut file, limit.saturating_add(1), out) {
-            Ok(()) => {}
-            Err(ReadFail::NoMemory) => return Err(ReadFail::NoMemory),
-            Err(_) => return Err(self.read_fault()),
+        match read_within(&mut file, limit, out) {
+            Err(ReadFail::Failed) => Err(self.read_fault()),
+            result => result,
         }
-        if out.len() as u64 > limit {
-            return Err(ReadFail::TooLong);
-        }
-        Ok(())
     }
 
-    fn make_file(&mut self, name: &str) -> Result<(), WriteFail> {
+    fn make_file(&mut self, name: &str) -> Result<(), WriteFail>
+        ensures makes { MakesFile (real_outside self.old) (real_outside self.new) name.now result }
+        ensures there { OnOk result (IsSome (file_of self.new)) }
+    {
         self.file = None;
         self.making = None;
         let Ok(making) = String::from_str(self.rt.alloc(), name) else {
@@ -134,31 +121,40 @@ impl<R: Files + Print + Eprint + AllocGlobal> Host for RealHost<R> {
         Ok(())
     }
 
-    fn append(&mut self, piece: &[u8]) -> Result<(), WriteFail> {
+    fn append(&mut self, piece: &[u8]) -> Result<(), WriteFail>
+        requires { IsSome (real_outside self.old).making }
+        ensures appends { Appends (real_outside self.old) (real_outside self.new) piece.now result }
+        ensures writes { WritesFile (R.File.contents) (file_of self.old) (file_of self.new) piece.now result }
+    {
         let Some(file) = &mut self.file else {
             return Err(self.write_fault());
         };
-        if write_piece(file, piece).is_err() {
-            return Err(self.write_fault());
+        match write_piece(file, piece) {
+            Ok(()) => Ok(()),
+            Err(_) => Err(self.write_fault()),
         }
-        Ok(())
     }
 
-    fn print(&mut self, piece: &[u8]) -> Result<(), WriteFail> {
-        if write_piece(&mut io::writer(&self.rt), piece).is_err() {
-            return Err(self.write_fault());
+    fn print(&mut self, piece: &[u8]) -> Result<(), WriteFail>
+        ensures prints { Prints (real_outside self.old) (real_outside self.new) piece.now result }
+        ensures writes { Writes (O.contents (output_of self.old)) (O.contents (output_of self.new)) piece.now result }
+        ensures others { errors_of self.new ≡ errors_of self.old }
+    {
+        match write_piece(&mut self.output, piece) {
+            Ok(()) => Ok(()),
+            Err(_) => Err(self.write_fault()),
         }
-        Ok(())
     }
 
-    fn complain(&mut self, piece: &[u8]) -> Result<(), WriteFail> {
-        let Ok(text) = str::from_utf8(piece) else {
-            return Err(self.complain_fault());
-        };
-        if self.rt.eprint(text).is_err() {
-            return Err(self.complain_fault());
+    fn complain(&mut self, piece: &[u8]) -> Result<(), WriteFail>
+        ensures complains { Complains (real_outside self.old) (real_outside self.new) piece.now result }
+        ensures writes { Writes (E.contents (errors_of self.old)) (E.contents (errors_of self.new)) piece.now result }
+        ensures others { output_of self.new ≡ output_of self.old }
+    {
+        match write_piece(&mut self.errors, piece) {
+            Ok(()) => Ok(()),
+            Err(_) => Err(self.complain_fault()),
         }
-        Ok(())
     }
 }
 
@@ -168,33 +164,62 @@ mod tests {
     use std::test::Fail;
     use std::{env, process};
 
+    /// More than three buffers of bytes that differ from one buffer to the next.
+    const LEN: usize = 3 * 4096 + 1;
+
     #[test]
     fn reads_what_it_wrote(rt: HostRuntime) -> Result<(), Fail> {
         let alloc = rt.alloc();
         let folder = env::temp_dir(&rt)?;
         let number = process::id(rt.process());
         let name = format!(in alloc; "{}/poke_base_{number}", folder.as_str())?;
-        let mut host = RealHost::new(rt.clone()?);
+        let mut bytes = Vec::new(alloc);
+        for i in 0..LEN {
+            bytes.push((i % 251) as u8)?;
+        }
+        let mut host = RealHost::new(&rt);
         host.make_file(name.as_str())?;
-        host.append(b"abc")?;
-        host.append(b"de")?;
-        let mut whole = Vec::new(alloc);
-        assert_eq!(rt; host.read_file(name.as_str(), 5, &mut whole), Ok(()));
-        assert_eq!(rt; whole.as_slice(), b"abcde".as_slice());
-        let mut prefix = Vec::new(alloc);
-        assert_eq!(rt;
-            host.read_file(name.as_str(), 4, &mut prefix),
-            Err(ReadFail::TooLong)
-        );
-        assert_eq!(rt; prefix.as_slice(), b"abcde".as_slice());
+        assert_eq!(rt; host.append(&bytes), Ok(()));
+        assert_eq!(rt; host.append(b"end"), Ok(()));
+        bytes.extend_from_slice(b"end")?;
+        let whole = LEN + 3;
+        let reads: [(usize, Result<(), ReadFail>, usize); 4] = [
+            (whole + 1, Ok(()), whole),
+            (whole, Ok(()), whole),
+            (whole - 1, Err(ReadFail::TooLong), whole),
+            (4095, Err(ReadFail::TooLong), 4096),
+        ];
+        for (limit, answer, count) in reads {
+            let mut out = Vec::new(alloc);
+            assert_eq!(rt;
+                host.read_file(name.as_str(), limit as u64, &mut out),
+                answer,
+                "at {limit}"
+            );
+            assert_eq!(rt; Some(out.as_slice()), bytes.get(..count), "at {limit}");
+        }
         fs::remove_file(&rt, name.as_str())?;
         let mut nothing = Vec::new(alloc);
         assert_eq!(rt;
             host.read_file(name.as_str(), 5, &mut nothing),
             Err(ReadFail::Failed)
         );
-        assert_eq!(rt; host.print(b""), Ok(()));
-        assert_eq!(rt; host.complain(b""), Ok(()));
+        Ok(())
+    }
+
+    #[test]
+    fn prints_and_complains_apart(rt: HostRuntime) -> Result<(), Fail> {
+        let alloc = rt.alloc();
+        let mut host = RealHost::over(&rt, Vec::new(alloc), Vec::new(alloc));
+        for (printed, complained) in [("a", "textpoke: "), ("bc", "bad words\n")] {
+            assert_eq!(rt; host.print(printed.as_bytes()), Ok(()));
+            assert_eq!(rt; host.complain(complained.as_bytes()), Ok(()));
+        }
+        assert_eq!(rt; host.output.as_slice(), b"abc".as_slice());
+        assert_eq!(rt; host.errors.as_slice(), b"textpoke: bad words\n".as_slice());
+        let mut real = RealHost::new(&rt);
+        assert_eq!(rt; real.print(b""), Ok(()));
+        assert_eq!(rt; real.complain(b""), Ok(()));
         Ok(())
     }
 }

@@ -61,16 +61,10 @@ impl Store {
         ensures ok { OnOk result (self.new ≡ record self.old { files = insert self.old.files name.now bytes.now }) }
         ensures err { OnErr result (self.new ≡ self.old) }
     {
-        let Ok(key) = String::from_str(alloc, name) else {
-            return Err(NoMemory);
-        };
-        let Ok(value) = Vec::from_slice(alloc, bytes) else {
-            return Err(NoMemory);
-        };
-        match self.files.insert(key, value) {
-            Ok(_) => Ok(()),
-            Err(_) => Err(NoMemory),
-        }
+        let key = String::from_str(alloc, name)?;
+        let value = Vec::from_slice(alloc, bytes)?;
+        self.files.insert(key, value)?;
+        Ok(())
     }
 
     /// Makes a file empty, which is then the file being made.
@@ -81,16 +75,10 @@ impl Store {
         ensures ok { OnOk result (self.new ≡ record { files = insert self.old.files name.now []; making = Some name.now }) }
         ensures err { OnErr result (self.new ≡ self.old) }
     {
-        let Ok(making) = String::from_str(alloc, name) else {
-            return Err(NoMemory);
-        };
-        match self.put(alloc, name, &[]) {
-            Ok(()) => {
-                self.making = Some(making);
-                Ok(())
-            }
-            Err(fail) => Err(fail),
-        }
+        let making = String::from_str(alloc, name)?;
+        self.put(alloc, name, &[])?;
+        self.making = Some(making);
+        Ok(())
     }
 
     /// From here on no file is being made.
@@ -119,7 +107,7 @@ impl Store {
     }
 }
 
-// Adds a piece to the bytes of a file that is there.
+/// Adds a piece to the bytes of a file that is there.
 fn extend(files: &mut BTreeMap<String, Vec<u8>>, name: &str, piece: &[u8]) -> Result<(), NoMemory>
     requires { IsSome (get_by_text files.old name.now) }
     ensures ok { OnOk result (files_in files.new.entries ≡ added (files_in files.old.entries) name.now piece.now) }
@@ -129,8 +117,6 @@ fn extend(files: &mut BTreeMap<String, Vec<u8>>, name: &str, piece: &[u8]) -> Re
     let Some(bytes) = files.get_mut(name) else {
         return Ok(());
     };
-    if bytes.extend_from_slice(piece).is_err() {
-        return Err(NoMemory);
-    }
+    bytes.extend_from_slice(piece)?;
     Ok(())
 }

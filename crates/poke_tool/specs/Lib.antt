@@ -8,4 +8,3 @@ pub mod Runs
 pub mod Endings
 pub mod SiteBytes
 pub mod Tables
-pub mod Written

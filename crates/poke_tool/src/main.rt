@@ -11,7 +11,6 @@ mod entry_lines;
 mod fault;
 #[cfg(test)]
 mod image_tests;
-pub mod laws;
 mod make;
 #[cfg(test)]
 mod make_tests;

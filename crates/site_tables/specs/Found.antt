@@ -44,7 +44,7 @@ pub record AreIn (sections : List SectionRecord) (tables : Tables) : Type 0 wher
 
 -- what a table of a kind is found to be among the sections of a file
 abbrev pub IsTable : List SectionRecord → TableKind → Result Table BadTable → Type 0
-IsTable sections kind (Ok table) = IsWhole kind table × (section_in table ≡ table_in sections kind)
+IsTable sections kind (Ok table) = IsWhole kind table × (section_in table ≡ table_in sections kind) × (table.kind ≡ kind)
 IsTable sections kind (Err bad) = IsBadTable sections kind × (bad ≡ record { kind = kind; size = table_len sections kind })
 
 -- what the three tables are found to be

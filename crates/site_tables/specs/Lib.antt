@@ -1,3 +1,4 @@
 pub mod Entry
-pub mod Found
 pub mod Tables
+pub mod Found
+pub mod Access

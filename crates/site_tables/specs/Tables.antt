@@ -1,5 +1,5 @@
 -- The tables of a module: the sections in which they stand, and all their entries.
-use Rattle.std.specs.Prelude.{ℕ, ◌*◌, ◌/◌, List, [], length, map, codes, find, Option, Some, None}
+use Rattle.std.specs.Prelude.{ℕ, Bool, true, ◌*◌, ◌/◌, List, [], length, map, codes, find, Option, Some, None}
 use Rattle.std.specs.List.{range_with_len}
 use Rattle.std.specs.Str.{bytes_eq}
 use Rattle.elf_module.specs.Elf.{SectionRecord}
@@ -14,6 +14,11 @@ abbrev pub table_name : TableKind → List ℕ
 table_name Jump = codes "__jump_table"
 table_name Call = codes ".static_call_sites"
 table_name Trace = codes "__mcount_loc"
+
+-- the section, where there is one, has the name of such a table
+abbrev pub has_table_name : TableKind → Option SectionRecord → Bool
+has_table_name kind None = true
+has_table_name kind (Some s) = bytes_eq s.name (table_name kind)
 
 -- the first section of that name
 abbrev pub table_in : List SectionRecord → TableKind → Option SectionRecord

@@ -109,7 +109,7 @@ pub fn trace_site(section: &Section, i: u32) -> u64
     long_field(section, 8 * i as usize)
 }
 
-// How many bytes an entry of a table takes.
+/// How many bytes an entry of a table takes.
 fn bytes_each(kind: TableKind) -> usize
     ensures { result ≡ entry_size kind }
 {
@@ -119,7 +119,7 @@ fn bytes_each(kind: TableKind) -> usize
     }
 }
 
-// The field of 8 bytes at an offset of a section.
+/// The field of 8 bytes at an offset of a section.
 #[tactic(auto, unfolding(elf_module::specs::Elf::field))]
 fn long_field(section: &Section, at: usize) -> u64
     requires { at + 8 ≤ length section.now.content.now }
@@ -128,7 +128,7 @@ fn long_field(section: &Section, at: usize) -> u64
     LittleEndian::read_u64(&section.content[at..])
 }
 
-// Where the signed field of 4 bytes at an offset of a section leads.
+/// Where the signed field of 4 bytes at an offset of a section leads.
 #[tactic(auto, unfolding(elf_module::specs::Elf::field))]
 fn near_address(section: &Section, at: usize) -> u64
     requires { at + 4 ≤ length section.now.content.now }
@@ -138,35 +138,35 @@ fn near_address(section: &Section, at: usize) -> u64
     address_from(section, at, sign_extended(value))
 }
 
-// A signed number of 32 bits, in 64 bits.
+/// A signed number of 32 bits, in 64 bits.
 fn sign_extended(value: u32) -> u64
     ensures { result ≡ extended value }
 {
     i64::from(value.cast_signed()).cast_unsigned()
 }
 
-// The address so far from an offset of a section. It wraps modulo 2^64.
+/// The address so far from an offset of a section. It wraps modulo 2^64.
 fn address_from(section: &Section, at: usize, distance: u64) -> u64
     ensures { result ≡ relative (section.now.addr + at) distance }
 {
     section.addr.wrapping_add(at as u64).wrapping_add(distance)
 }
 
-// A number without its low two bits.
+/// A number without its low two bits.
 fn without_low_bits(value: u64) -> u64
     ensures { result ≡ cleared value }
 {
     value & !3
 }
 
-// Whether bit 0 is set.
+/// Whether bit 0 is set.
 fn has_bit0(value: u64) -> bool
     ensures { result ≡ (value % 2 == 1) }
 {
     value & 1 != 0
 }
 
-// Whether bit 1 is set.
+/// Whether bit 1 is set.
 fn has_bit1(value: u64) -> bool
     ensures { result ≡ (value / 2 % 2 == 1) }
 {

@@ -1,17 +1,24 @@
 //! The tables of a file.
-ghost use Rattle.std.specs.Prelude.{◌≡◌, ◌<◌, ◌^◌};
-ghost use Rattle.site_tables.specs.Found.{AreTables, IsTable};
-ghost use Rattle.site_tables.specs.Tables.{table_name};
+ghost use Rattle.std.specs.Prelude.{◌≡◌, ◌<◌, ◌*◌, ◌^◌, length, true, option_map};
+ghost use Rattle.elf_module.specs.Elf.{section_of};
+ghost use Rattle.site_tables.specs.declared.entries.TableKind.TheVariants.{Jump, Call, Trace};
+ghost use Rattle.site_tables.specs.Entry.{entry_size};
+ghost use Rattle.site_tables.specs.Tables.{content_of, has_table_name};
 
-use crate::entries::{TableKind, count};
-use elf_module::{ElfFile, Section};
+use crate::entries::TableKind;
+use elf_module::Section;
 use thiserror::Error;
 
 /// A table of whole entries: its section, where the file has one, and how many entries it has.
 #[derive(Clone, Copy, Debug, PartialEq, Eq)]
 pub struct Table<'a> {
+    pub kind: TableKind,
     pub section: Option<Section<'a>>,
     pub count: u32,
+    /// Its bytes are that many entries.
+    pub ghost whole: { length (content_of (option_map section_of section)) ≡ count * entry_size kind },
+    /// Its section has the name of such a table.
+    pub ghost named: { has_table_name kind (option_map section_of section) ≡ true },
 }
 
 impl Table<'_> {
@@ -30,6 +37,9 @@ pub struct Tables<'a> {
     pub jumps: Table<'a>,
     pub calls: Table<'a>,
     pub traces: Table<'a>,
+    pub ghost jumps_kind: { jumps.kind ≡ Jump },
+    pub ghost calls_kind: { calls.kind ≡ Call },
+    pub ghost traces_kind: { traces.kind ≡ Trace },
 }
 
 /// The table of a kind isn't whole entries.
@@ -39,57 +49,4 @@ pub struct BadTable {
     pub kind: TableKind,
     /// How many bytes the table has.
     pub size: u64,
-}
-
-/// The tables of a file, each of whole entries.
-///
-/// # Errors
-/// The first, of jumps, calls and traces, that isn't whole entries.
-pub fn find_tables<'a>(file: &ElfFile<'a>) -> Result<Tables<'a>, BadTable>
-    ensures { AreTables file.now.sections result }
-{
-    let jumps = find_table(file, TableKind::Jump)?;
-    let calls = find_table(file, TableKind::Call)?;
-    let traces = find_table(file, TableKind::Trace)?;
-    Ok(Tables {
-        jumps,
-        calls,
-        traces,
-    })
-}
-
-/// The table of a kind in a file; one that is missing has no entries.
-///
-/// # Errors
-/// `BadTable` exactly where its bytes aren't whole entries.
-pub fn find_table<'a>(file: &ElfFile<'a>, kind: TableKind) -> Result<Table<'a>, BadTable>
-    ensures { IsTable file.now.sections kind result }
-{
-    let Some(section) = file.section_named(table_name(kind)) else {
-        return Ok(Table {
-            section: None,
-            count: 0,
-        });
-    };
-    match count(&section, kind) {
-        Ok(count) => Ok(Table {
-            section: Some(section),
-            count,
-        }),
-        Err(bad) => Err(BadTable {
-            kind,
-            size: bad.size,
-        }),
-    }
-}
-
-/// The name of the section in which a table stands.
-fn table_name(kind: TableKind) -> &'static [u8]
-    ensures { result.now ≡ table_name kind }
-{
-    match kind {
-        TableKind::Jump => b"__jump_table",
-        TableKind::Call => b".static_call_sites",
-        TableKind::Trace => b"__mcount_loc",
-    }
 }

@@ -4,16 +4,16 @@ use Rattle.std.proofs.lemmas.List.{drop-drop, drop_at, take_at, drop-append-le, 
 use Rattle.elf_module.specs.Elf.{piece, e_shoff}
 use Rattle.elf_build.specs.declared.sections.Part.{Part}
 use Rattle.elf_build.specs.declared.plan.Plan.{Plan}
-use Rattle.elf_build.specs.File.{content_of, filled, header_of, headers_from, laid, section_header, parts}
-use Rattle.poke_tool.proofs.WrittenFields.{drop-after, length-header}
+use Rattle.elf_build.specs.File.{part_bytes, filled, header_of, headers_from, laid, section_header, parts}
+use Rattle.written_module.proofs.Fields.{drop-after, length-header}
 
 -- a section stands in a file: its header at its index, its bytes at some offset
 pub record StandsAt (plan : Plan) (file : List ℕ) (index : ℕ) (part : Part) : Type 0 where
   pub offset : ℕ
   pub rest : List ℕ
-  pub header : drop (e_shoff file + 64 * index) file ≡ section_header (header_of plan part) offset (length (content_of plan part)) ++ rest
-  pub bytes : piece offset (length (content_of plan part)) file ≡ content_of plan part
-  pub within : offset + length (content_of plan part) ≤ length file
+  pub header : drop (e_shoff file + 64 * index) file ≡ section_header (header_of plan part) offset (length (part_bytes plan part)) ++ rest
+  pub bytes : piece offset (length (part_bytes plan part)) file ≡ part_bytes plan part
+  pub within : offset + length (part_bytes plan part) ≤ length file
 
 -- sections stand in a file, their headers from an index on
 abbrev pub AreStanding : Plan → List ℕ → ℕ → List Part → Type 0
@@ -35,8 +35,8 @@ pub laid-begins : (plan : Plan) (parts : List Part) (out : List ℕ) → (more :
 laid-begins plan [] out = (replicate ((length out + 15) / 16 * 16 - length out) 0, refl)
 laid-begins plan (part ∷ parts) out =
     let zeros = replicate ((length out + 15) / 16 * 16 - length out) 0 in
-    let next = laid-begins plan parts (filled out ++ content_of plan part) in
-    (zeros ++ (content_of plan part ++ next.0), next.1 ∙ append_assoc (out ++ zeros) (content_of plan part) next.0 ∙ append_assoc out zeros (content_of plan part ++ next.0))
+    let next = laid-begins plan parts (filled out ++ part_bytes plan part) in
+    (zeros ++ (part_bytes plan part ++ next.0), next.1 ∙ append_assoc (out ++ zeros) (part_bytes plan part) next.0 ∙ append_assoc out zeros (part_bytes plan part ++ next.0))
 
 -- more at its end makes a list no shorter
 longer-by : (out more : List ℕ) → length out ≤ length (out ++ more)
@@ -60,7 +60,7 @@ pub standing : (plan : Plan) (file whole more : List ℕ) → ((at : ℕ) → 64
     → drop (e_shoff file + 64 * index) file ≡ headers_from plan out parts → AreStanding plan file index parts
 standing plan file whole more ahead longer [] out index some is headers = tt
 standing plan file whole more ahead longer (part ∷ parts) out index some is headers =
-    let content = content_of plan part in
+    let content = part_bytes plan part in
     let prefix = filled out in
     let next = laid-begins plan parts (prefix ++ content) in
     let whole_is : whole ≡ (prefix ++ content) ++ next.0 = sym is ∙ next.1 in

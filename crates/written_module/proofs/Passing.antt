@@ -5,17 +5,17 @@ use Rattle.elf_module.specs.declared.refused.ElfRefused.{ElfRefused}
 use Rattle.elf_module.specs.declared.refused.ElfRefused.TheVariants.{Short, Magic, Class, Data, Version, Machine, Kind, Relocatable, Headers, Section, Names, Symbols}
 use Rattle.elf_module.specs.Elf.{SectionRecord, content, e_machine, e_shentsize, e_shoff, e_type, e_version, field, is_empty_type, sh_name, sh_type}
 use Rattle.elf_module.specs.Refusals.{HasName, Holds, Passes, ReachesPast, WrongHeaders, WrongSymbols, order}
-use Rattle.elf_build.specs.declared.tables.Table.TheVariants.{Jumps, Calls, Traces}
+use Rattle.elf_build.specs.declared.tables.PlanTable.TheVariants.{Jumps, Calls, Traces}
 use Rattle.elf_build.specs.declared.sections.Part.{Part}
 use Rattle.elf_build.specs.declared.sections.Part.TheVariants.{Text, Entries, Data as DataPart, Symbols as SymbolsPart, Names as NamesPart, SectionNames}
 use Rattle.elf_build.specs.declared.plan.Plan.{Plan}
-use Rattle.elf_build.specs.File.{header_of, names_of, parts, section_names, symbols_of as symbols_bytes}
-use Rattle.poke_tool.specs.Written.{section_of_part}
-use Rattle.poke_tool.proofs.WrittenFields.{elf-magic, elf-class, elf-data, elf-ident_version, elf-type, elf-machine, elf-version, elf-shentsize}
-use Rattle.poke_tool.proofs.WrittenStanding.{StandsAt, AreStanding}
-use Rattle.poke_tool.proofs.WrittenBounds.{Bounds, length-symbols}
-use Rattle.poke_tool.proofs.WrittenSections.{IsLaid, content-is, first-kind, first-name, header-fits, kind-is, name-is, names-stand, offset-is, section_names-stand, sections-read, shnum-is, shstrndx-is, size-is, table-is}
-use Rattle.poke_tool.proofs.WrittenSymbolRows.{symbols-have, symtab-is}
+use Rattle.elf_build.specs.File.{header_of, names_of, parts, section_names, symbol_table}
+use Rattle.written_module.specs.Written.{section_of_part}
+use Rattle.written_module.proofs.Fields.{elf-magic, elf-class, elf-data, elf-ident_version, elf-type, elf-machine, elf-version, elf-shentsize}
+use Rattle.written_module.proofs.Standing.{StandsAt, AreStanding}
+use Rattle.written_module.proofs.Bounds.{Bounds, length-symbols}
+use Rattle.written_module.proofs.Sections.{IsLaid, content-is, first-kind, first-name, header-fits, kind-is, name-is, names-stand, offset-is, section_names-stand, sections-read, shnum-is, shstrndx-is, size-is, table-is}
+use Rattle.written_module.proofs.SymbolRows.{symbols-have, symtab-is}
 
 -- each part has its header at some index
 pub standing-at : (plan : Plan) (file : List ℕ) (parts : List Part) (index : ℕ) → AreStanding plan file index parts
@@ -112,7 +112,7 @@ module _ (plan : Plan) (ok : Bounds plan) (file : List ℕ) (laid_so : IsLaid pl
   symbols-right n (inl (inl uneven, e)) = let count = length-symbols plan ok in uneven (omega arith)
   symbols-right n (inl (inr no_strings, e)) = let nine = shnum-is plan file laid_so in no_strings (omega arith, names-kind)
   symbols-right n (inr lacks) =
-      lacks.1.holds (subst (λ (names : List ℕ). HasName names (field 4 (24 * n) (symbols_bytes plan))) (sym names-are) (symbols-have plan ok n lacks.1.below))
+      lacks.1.holds (subst (λ (names : List ℕ). HasName names (field 4 (24 * n) (symbol_table plan))) (sym names-are) (symbols-have plan ok n lacks.1.below))
 
   -- no condition holds
   none-holds : (why : ElfRefused) → order why < 13 → Holds file why → ⊥

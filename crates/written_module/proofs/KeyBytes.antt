@@ -6,13 +6,13 @@ use Rattle.std.proofs.lemmas.Bool.{and_from, and_right, le-ltb, lt-ltb, le-leb}
 use Rattle.std.proofs.lemmas.List.{get_or_append_left, get_or-append-add}
 use Rattle.std.proofs.lemmas.Option.{slice_get_within}
 use Rattle.elf_module.specs.Elf.{SectionRecord, byte_at, covers, is_alloc, loaded, sections_of}
-use Rattle.elf_build.specs.declared.tables.Table.TheVariants.{Jumps, Calls, Traces}
+use Rattle.elf_build.specs.declared.tables.PlanTable.TheVariants.{Jumps, Calls, Traces}
 use Rattle.elf_build.specs.declared.sections.Part.TheVariants.{Text, Entries, Data, Symbols, Names, SectionNames}
 use Rattle.elf_build.specs.declared.plan.Plan.{Plan}
 use Rattle.elf_build.specs.declared.plan.PlanKey.{PlanKey}
 use Rattle.elf_build.specs.File.{data_at, data_of, entry_bytes, key_at, parts, start_bytes, table_at}
-use Rattle.poke_tool.specs.Written.{no_section, section_of_part, sections_from}
-use Rattle.poke_tool.proofs.WrittenBounds.{Bounds, length-data, length-entry, length-start, length-table}
+use Rattle.written_module.specs.Written.{no_section, section_of_part, sections_from}
+use Rattle.written_module.proofs.Bounds.{Bounds, length-data, length-entry, length-start, length-table}
 
 -- the bytes of each key stand after those before
 data-byte : (keys : List PlanKey) (i : ℕ) (key : PlanKey) (j : ℕ) → slice_get keys i ≡ Some key → j < 16

@@ -6,7 +6,7 @@ use Rattle.std.proofs.lemmas.Bool.{and_parts, leb-true, ltb-true}
 use Rattle.elf_module.specs.Elf.{field, sections_of}
 use Rattle.site_tables.specs.declared.entries.TableKind.TheVariants.{Jump as JumpTable, Call as CallTable, Trace as TraceTable}
 use Rattle.site_tables.specs.Entry.{near_in, jump_in, call_in, trace_in, extended, relative, cleared}
-use Rattle.elf_build.specs.declared.tables.Table.TheVariants.{Jumps, Calls, Traces}
+use Rattle.elf_build.specs.declared.tables.PlanTable.TheVariants.{Jumps, Calls, Traces}
 use Rattle.elf_build.specs.declared.sections.Part.TheVariants.{Entries}
 use Rattle.elf_build.specs.declared.plan.Plan.{Plan}
 use Rattle.elf_build.specs.declared.plan.PlanSite.{PlanSite}
@@ -14,14 +14,14 @@ use Rattle.elf_build.specs.declared.plan.PlanSite.TheVariants.{Jump, Call, Trace
 use Rattle.elf_build.specs.declared.plan.PlanKey.{PlanKey}
 use Rattle.elf_build.specs.Fits.{site_fits, is_in_text, is_switch, is_callee}
 use Rattle.elf_build.specs.File.{entry_bytes, key_at, flag, table_at, table_bytes, parts}
-use Rattle.poke_tool.specs.Module.{table_of, table_in}
-use Rattle.poke_tool.specs.Written.{jump_of, call_of, trace_of, jumps_of, calls_of, traces_of, no_section, section_of_part, sections_from}
+use Rattle.site_tables.specs.Tables.{table_in}
+use Rattle.written_module.specs.Written.{jump_of, call_of, trace_of, jumps_of, calls_of, traces_of, no_section, section_of_part, sections_from}
 use Rattle.site_tables.specs.Tables.{entries_in}
-use Rattle.poke_tool.proofs.WrittenFields.{field-drop, field-prefix}
-use Rattle.poke_tool.proofs.WrittenBounds.{Bounds}
-use Rattle.poke_tool.proofs.WrittenLeads.{near-round, flag-low, flag-first, flag-second, flag-below, on-round, first-of_two, second-of_two, first-of_three, second-of_three, third-of_three, field-here}
-use Rattle.poke_tool.proofs.WrittenRows.{IsEntry, table-reads}
-use Rattle.poke_tool.proofs.WrittenRows.IsEntry.{none as empty, some}
+use Rattle.written_module.proofs.Fields.{field-drop, field-prefix}
+use Rattle.written_module.proofs.Bounds.{Bounds}
+use Rattle.written_module.proofs.Leads.{near-round, flag-low, flag-first, flag-second, flag-below, on-round, first-of_two, second-of_two, first-of_three, second-of_three, third-of_three, field-here}
+use Rattle.written_module.proofs.Rows.{IsEntry, table-reads}
+use Rattle.written_module.proofs.Rows.IsEntry.{none as empty, some}
 
 -- an address of the text
 pub record IsInside (plan : Plan) (at : ℕ) : Type 0 where
@@ -195,7 +195,7 @@ module _ (plan : Plan) (ok : Bounds plan) (file : List ℕ) (read : sections_of 
   pub jumps-read : jumps_of file ≡ flat_map (jump_of plan) plan.sites.items
   jumps-read =
       let few = ok.sites in
-      let table : table_of file JumpTable ≡ Some (section_of_part plan 2 (Entries Jumps)) = ap (λ sections. table_in sections JumpTable) read ∙ jump-table plan in
+      let table : table_in (sections_of file) JumpTable ≡ Some (section_of_part plan 2 (Entries Jumps)) = ap (λ sections. table_in sections JumpTable) read ∙ jump-table plan in
       ap (entries_in jump_in 16) table
       ∙ table-reads (entry_bytes Jumps plan) (jump_of plan) (λ field_at bytes. jump_in field_at bytes 0) 16 (table_at Jumps plan) (omega arith)
       (site_fits plan) (jump-entry plan ok) plan.sites.items 0 (table_at Jumps plan) (omega arith) (omega arith) ok.all_sites
@@ -206,7 +206,7 @@ module _ (plan : Plan) (ok : Bounds plan) (file : List ℕ) (read : sections_of 
   pub calls-read : calls_of file ≡ flat_map (call_of plan) plan.sites.items
   calls-read =
       let few = ok.sites in
-      let table : table_of file CallTable ≡ Some (section_of_part plan 3 (Entries Calls)) = ap (λ sections. table_in sections CallTable) read ∙ call-table plan in
+      let table : table_in (sections_of file) CallTable ≡ Some (section_of_part plan 3 (Entries Calls)) = ap (λ sections. table_in sections CallTable) read ∙ call-table plan in
       ap (entries_in call_in 8) table
       ∙ table-reads (entry_bytes Calls plan) (call_of plan) (λ field_at bytes. call_in field_at bytes 0) 8 (table_at Calls plan) (omega arith)
       (site_fits plan) (call-entry plan ok) plan.sites.items 0 (table_at Calls plan) (omega arith) (omega arith) ok.all_sites
@@ -217,7 +217,7 @@ module _ (plan : Plan) (ok : Bounds plan) (file : List ℕ) (read : sections_of 
   pub traces-read : traces_of file ≡ flat_map trace_of plan.sites.items
   traces-read =
       let few = ok.sites in
-      let table : table_of file TraceTable ≡ Some (section_of_part plan 4 (Entries Traces)) = ap (λ sections. table_in sections TraceTable) read ∙ trace-table plan in
+      let table : table_in (sections_of file) TraceTable ≡ Some (section_of_part plan 4 (Entries Traces)) = ap (λ sections. table_in sections TraceTable) read ∙ trace-table plan in
       ap (entries_in (λ addr. trace_in) 8) table
       ∙ table-reads (entry_bytes Traces plan) trace_of (λ field_at bytes. trace_in bytes 0) 8 (table_at Traces plan) (omega arith)
       (site_fits plan) (trace-entry plan ok) plan.sites.items 0 (table_at Traces plan) (omega arith) (omega arith) ok.all_sites

@@ -1,12 +1,12 @@
 -- What is read of the file that is written of a plan.
-use Rattle.std.specs.Prelude.{◌≡◌, ◌<◌, ℕ, ◌+◌, false, true, List, [], ◌∷◌, ◌++◌, length, map, codes, slice_get, slice_index, Some}
+use Rattle.std.specs.Prelude.{◌≡◌, ◌<◌, ◌≤◌, ℕ, ◌+◌, false, true, List, [], ◌∷◌, ◌++◌, length, map, codes, slice_get, slice_index, Some}
 use Rattle.std.specs.List.{flat_map}
 use Rattle.elf_module.specs.Elf.{SectionRecord, SymbolRecord, sections_of, symbols_of, loaded}
 use Rattle.elf_module.specs.Refusals.{Passes}
 use Rattle.site_tables.specs.declared.entries.JumpEntry.{JumpEntry}
 use Rattle.site_tables.specs.declared.entries.CallSite.{CallSite}
 use Rattle.site_tables.specs.Tables.{jumps_in, calls_in, traces_in}
-use Rattle.elf_build.specs.declared.tables.Table.TheVariants.{Jumps, Calls, Traces}
+use Rattle.elf_build.specs.declared.tables.PlanTable.TheVariants.{Jumps, Calls, Traces}
 use Rattle.elf_build.specs.declared.sections.Part.{Part}
 use Rattle.elf_build.specs.declared.sections.Part.TheVariants.{Text, Entries, Data, Symbols, Names, SectionNames}
 use Rattle.elf_build.specs.declared.plan.Plan.{Plan}
@@ -14,8 +14,9 @@ use Rattle.elf_build.specs.declared.plan.PlanSite.{PlanSite}
 use Rattle.elf_build.specs.declared.plan.PlanSite.TheVariants.{Jump, Call, Trace}
 use Rattle.elf_build.specs.declared.plan.PlanKey.{PlanKey}
 use Rattle.elf_build.specs.declared.plan.PlanFunction.{PlanFunction}
+use Rattle.elf_build.specs.Gabi.{stb_global, stt_func, stt_object, symbol_info}
 use Rattle.elf_build.specs.Fits.{fits}
-use Rattle.elf_build.specs.File.{file_of, parts, header_of, content_of, key_at, data_at, start_bytes}
+use Rattle.elf_build.specs.File.{file_of, parts, header_of, part_bytes, key_at, key_size, data_at, data_index, text_index, start_bytes}
 
 -- the name of a section
 abbrev pub part_name : Part → List ℕ
@@ -38,9 +39,9 @@ section_of_part plan index part =
       kind = header.kind;
       flags = header.flags;
       addr = header.addr;
-      size = length (content_of plan part);
+      size = length (part_bytes plan part);
       link = header.link;
-      content = content_of plan part;
+      content = part_bytes plan part;
     }
 
 abbrev pub sections_from : Plan → ℕ → List Part → List SectionRecord
@@ -56,12 +57,12 @@ abbrev pub no_symbol : SymbolRecord
 no_symbol = record { name = []; info = 0; shndx = 0; value = 0 }
 
 abbrev pub function_symbol : PlanFunction → SymbolRecord
-function_symbol function = record { name = function.name.items; info = 0x12; shndx = 1; value = function.at }
+function_symbol function = record { name = function.name.items; info = symbol_info stb_global stt_func; shndx = text_index; value = function.at }
 
 abbrev pub key_symbols_from : ℕ → List PlanKey → List SymbolRecord
 key_symbols_from at [] = []
 key_symbols_from at (key ∷ keys) =
-    record { name = key.name.items; info = 0x11; shndx = 5; value = at } ∷ key_symbols_from (at + 16) keys
+    record { name = key.name.items; info = symbol_info stb_global stt_object; shndx = data_index; value = at } ∷ key_symbols_from (at + key_size) keys
 
 -- the entry of a table that a site is; one of another kind is none
 abbrev pub jump_of : Plan → PlanSite → List JumpEntry
@@ -89,16 +90,21 @@ calls_of file = calls_in (sections_of file)
 abbrev pub traces_of : List ℕ → List ℕ
 traces_of file = traces_in (sections_of file)
 
--- the file of a plan is read, and says what the plan does: the same sections, and in the same order the same
--- entries, functions and keys, which hold what the plan has them start with
+-- how many bytes a module file may have
+abbrev pub module_limit : ℕ
+module_limit = 67108864
+
+-- the file of a plan is short enough to be read as a module, and says what the plan does: the same sections, and in
+-- the same order the same entries, functions and keys, which hold what the plan has them start with
 pub record ReadsBack (plan : Plan) : Type 0 where
+  pub within : length (file_of plan) ≤ module_limit
   pub passes : Passes (file_of plan) 13
   pub sections : sections_of (file_of plan) ≡ no_section ∷ sections_from plan 1 parts
   pub jumps : jumps_of (file_of plan) ≡ flat_map (jump_of plan) plan.sites.items
   pub calls : calls_of (file_of plan) ≡ flat_map (call_of plan) plan.sites.items
   pub traces : traces_of (file_of plan) ≡ flat_map trace_of plan.sites.items
   pub symbols : symbols_of (file_of plan) ≡ no_symbol ∷ map function_symbol plan.functions.items ++ key_symbols_from (data_at plan) plan.keys.items
-  pub keys : (i : ℕ) (key : PlanKey) (j : ℕ) → slice_get plan.keys.items i ≡ Some key → j < 16
+  pub keys : (i : ℕ) (key : PlanKey) (j : ℕ) → slice_get plan.keys.items i ≡ Some key → j < key_size
       → loaded (sections_of (file_of plan)) (key_at plan i + j) ≡ Some (slice_index (start_bytes key.start) j)
 
 -- every file that is written reads back

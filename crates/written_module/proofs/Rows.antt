@@ -7,7 +7,7 @@ use Rattle.std.proofs.lemmas.Bool.{and_parts}
 use Rattle.std.proofs.lemmas.List.{length-append}
 use Rattle.elf_build.specs.declared.plan.PlanSite.{PlanSite}
 use Rattle.elf_build.specs.File.{table_from}
-use Rattle.poke_tool.proofs.WrittenFields.{drop-after}
+use Rattle.written_module.proofs.Fields.{drop-after}
 
 -- values from an index on are those of the function that begins there
 pub range-next : {A : Type 0} (f : ℕ → A) (m n : ℕ) → map f (range_with_len (n + 1) m) ≡ map (λ i. f (i + 1)) (range_with_len n m)

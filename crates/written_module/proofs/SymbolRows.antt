@@ -10,13 +10,13 @@ use Rattle.elf_build.specs.declared.plan.Plan.{Plan}
 use Rattle.elf_build.specs.declared.plan.PlanKey.{PlanKey}
 use Rattle.elf_build.specs.declared.plan.PlanFunction.{PlanFunction}
 use Rattle.elf_build.specs.Fits.{function_fits, is_in_text, is_name, key_fits, start_fits}
-use Rattle.elf_build.specs.File.{data_at, names_of, parts, symbols_of as symbols_bytes, symbol, function_symbols, key_symbols, names_of_functions, names_of_keys}
-use Rattle.poke_tool.specs.Written.{no_section, no_symbol, section_of_part, sections_from, function_symbol, key_symbols_from}
-use Rattle.poke_tool.proofs.WrittenFields.{field-drop, symbol-name, symbol-info, symbol-shndx, symbol-value}
-use Rattle.poke_tool.proofs.WrittenBounds.{Bounds, name-full, length-names, length-symbols}
-use Rattle.poke_tool.proofs.WrittenRows.{rows-more, next-drop}
-use Rattle.poke_tool.proofs.WrittenNamePlaces.{name-read, name-there, name-next, prefix-short, longer-prefix}
-use Rattle.poke_tool.proofs.WrittenTables.{inside}
+use Rattle.elf_build.specs.File.{data_at, names_of, parts, symbol_table, symbol, function_symbols, key_symbols, names_of_functions, names_of_keys}
+use Rattle.written_module.specs.Written.{no_section, no_symbol, section_of_part, sections_from, function_symbol, key_symbols_from}
+use Rattle.written_module.proofs.Fields.{field-drop, symbol-name, symbol-info, symbol-shndx, symbol-value}
+use Rattle.written_module.proofs.Bounds.{Bounds, name-full, length-names, length-symbols}
+use Rattle.written_module.proofs.Rows.{rows-more, next-drop}
+use Rattle.written_module.proofs.NamePlaces.{name-read, name-there, name-next, prefix-short, longer-prefix}
+use Rattle.written_module.proofs.Tables.{inside}
 
 -- a symbol is read as it was written
 pub symbol-read : (names : List ℕ) (name info shndx value size : ℕ) (rest text : List ℕ) → name < 256 ^ 4 → shndx < 256 ^ 2 → value < 256 ^ 8 → name_in names name ≡ text
@@ -151,7 +151,7 @@ module _ (plan : Plan) (ok : Bounds plan) where
   keys-place = omega arith
 
   -- the symbols are read as the functions and keys
-  pub symbols-are : symbols_from (symbols_bytes plan) (names_of plan)
+  pub symbols-are : symbols_from (symbol_table plan) (names_of plan)
       ≡ no_symbol ∷ map function_symbol plan.functions.items ++ key_symbols_from (data_at plan) plan.keys.items
   symbols-are =
       let names = names_of plan in
@@ -164,10 +164,10 @@ module _ (plan : Plan) (ok : Bounds plan) where
       (keys-read names names-short plan.keys.items (0 ∷ names_of_functions plan.functions.items) (1 + length (names_of_functions plan.functions.items)) (data_at plan)
       keys-place names-keys ok.all_keys (omega arith))
       plan.functions.items (0 ∷ []) 1 refl refl ok.all_functions)
-      (λ i. symbol_in names (drop (24 * i) (symbols_bytes plan))) (λ i. refl)
+      (λ i. symbol_in names (drop (24 * i) (symbol_table plan))) (λ i. refl)
 
   -- the name of each symbol stands in the table
-  pub symbols-have : (k : ℕ) → k < length (symbols_bytes plan) / 24 → HasName (names_of plan) (field 4 (24 * k) (symbols_bytes plan))
+  pub symbols-have : (k : ℕ) → k < length (symbol_table plan) / 24 → HasName (names_of plan) (field 4 (24 * k) (symbol_table plan))
   symbols-have k below =
       let names = names_of plan in
       let count = length-symbols plan ok in
@@ -182,4 +182,4 @@ module _ (plan : Plan) (ok : Bounds plan) where
   pub symbols-all : (file : List ℕ) → sections_of file ≡ no_section ∷ sections_from plan 1 parts → content file 7 ≡ names_of plan
       → symbols_of file ≡ no_symbol ∷ map function_symbol plan.functions.items ++ key_symbols_from (data_at plan) plan.keys.items
   symbols-all file read names =
-      ap (symbols_of_table file) (symtab-is plan file read) ∙ ap (symbols_from (symbols_bytes plan)) names ∙ symbols-are
+      ap (symbols_of_table file) (symtab-is plan file read) ∙ ap (symbols_from (symbol_table plan)) names ∙ symbols-are

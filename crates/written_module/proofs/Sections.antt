@@ -4,16 +4,16 @@ use Rattle.std.specs.Prelude.{if◌then◌else◌}
 use Rattle.std.specs.List.{range_with_len}
 use Rattle.std.proofs.lemmas.List.{length-append}
 use Rattle.elf_module.specs.Elf.{content, e_shnum, e_shoff, e_shstrndx, field, header_at, is_empty_type, name_in, piece, section_at, sections_of, sh_addr, sh_flags, sh_link, sh_name, sh_offset, sh_size, sh_type}
-use Rattle.elf_build.specs.declared.tables.Table.TheVariants.{Jumps, Calls, Traces}
+use Rattle.elf_build.specs.declared.tables.PlanTable.TheVariants.{Jumps, Calls, Traces}
 use Rattle.elf_build.specs.declared.sections.Part.{Part}
 use Rattle.elf_build.specs.declared.sections.Part.TheVariants.{Text, Entries, Data, Symbols, Names, SectionNames}
 use Rattle.elf_build.specs.declared.sections.Header.{Header}
 use Rattle.elf_build.specs.declared.plan.Plan.{Plan}
-use Rattle.elf_build.specs.File.{content_of, file_of, filled, laid, header_of, section_header, section_names, elf_header, body, headers_from, parts}
-use Rattle.poke_tool.specs.Written.{part_name, section_of_part, sections_from, no_section}
-use Rattle.poke_tool.proofs.WrittenFields.{field-drop, header-name, header-kind, header-flags, header-addr, header-offset, header-size, header-link, length-elf_header, elf-shoff, elf-shnum, elf-shstrndx}
-use Rattle.poke_tool.proofs.WrittenStanding.{StandsAt, AreStanding, standing, laid-begins, whole-ahead, whole-headers, length-whole, header-next, regroup}
-use Rattle.poke_tool.proofs.WrittenBounds.{Bounds, body-short}
+use Rattle.elf_build.specs.File.{part_bytes, file_of, filled, laid, header_of, section_header, section_names, elf_header, body, headers_from, parts}
+use Rattle.written_module.specs.Written.{part_name, section_of_part, sections_from, no_section}
+use Rattle.written_module.proofs.Fields.{field-drop, header-name, header-kind, header-flags, header-addr, header-offset, header-size, header-link, length-elf_header, elf-shoff, elf-shnum, elf-shstrndx}
+use Rattle.written_module.proofs.Standing.{StandsAt, AreStanding, standing, laid-begins, whole-ahead, whole-headers, length-whole, header-next, regroup}
+use Rattle.written_module.proofs.Bounds.{Bounds, body-short}
 
 -- a header's numbers fit their fields
 pub record HeaderFits (header : Header) : Type 0 where
@@ -62,51 +62,51 @@ module _ (plan : Plan) (file : List ℕ) (index : ℕ) (part : Part) (at : Stand
   -- the place of its name
   pub name-is : sh_name file index ≡ (header_of plan part).name
   unfolding field
-  name-is = ap (λ (l : List ℕ). field 4 0 l) at.header ∙ header-name (header_of plan part) at.offset (length (content_of plan part)) at.rest fits.name
+  name-is = ap (λ (l : List ℕ). field 4 0 l) at.header ∙ header-name (header_of plan part) at.offset (length (part_bytes plan part)) at.rest fits.name
 
   -- its type
   pub kind-is : sh_type file index ≡ (header_of plan part).kind
   kind-is =
       field-drop 4 (header_at file index) 4 file ∙ ap (λ (l : List ℕ). field 4 4 l) at.header
-      ∙ header-kind (header_of plan part) at.offset (length (content_of plan part)) at.rest fits.kind
+      ∙ header-kind (header_of plan part) at.offset (length (part_bytes plan part)) at.rest fits.kind
 
   -- its flags
   pub flags-is : sh_flags file index ≡ (header_of plan part).flags
   flags-is =
       field-drop 8 (header_at file index) 8 file ∙ ap (λ (l : List ℕ). field 8 8 l) at.header
-      ∙ header-flags (header_of plan part) at.offset (length (content_of plan part)) at.rest fits.flags
+      ∙ header-flags (header_of plan part) at.offset (length (part_bytes plan part)) at.rest fits.flags
 
   -- its address
   pub addr-is : sh_addr file index ≡ (header_of plan part).addr
   addr-is =
       field-drop 8 (header_at file index) 16 file ∙ ap (λ (l : List ℕ). field 8 16 l) at.header
-      ∙ header-addr (header_of plan part) at.offset (length (content_of plan part)) at.rest fits.addr
+      ∙ header-addr (header_of plan part) at.offset (length (part_bytes plan part)) at.rest fits.addr
 
   -- the offset of its bytes
   pub offset-is : sh_offset file index ≡ at.offset
   offset-is =
       let within = at.within in
       field-drop 8 (header_at file index) 24 file ∙ ap (λ (l : List ℕ). field 8 24 l) at.header
-      ∙ header-offset (header_of plan part) at.offset (length (content_of plan part)) at.rest (omega arith)
+      ∙ header-offset (header_of plan part) at.offset (length (part_bytes plan part)) at.rest (omega arith)
 
   -- how many bytes it has
-  pub size-is : sh_size file index ≡ length (content_of plan part)
+  pub size-is : sh_size file index ≡ length (part_bytes plan part)
   size-is =
       let within = at.within in
       field-drop 8 (header_at file index) 32 file ∙ ap (λ (l : List ℕ). field 8 32 l) at.header
-      ∙ header-size (header_of plan part) at.offset (length (content_of plan part)) at.rest (omega arith)
+      ∙ header-size (header_of plan part) at.offset (length (part_bytes plan part)) at.rest (omega arith)
 
   -- its link
   pub link-is : sh_link file index ≡ (header_of plan part).link
   link-is =
       field-drop 4 (header_at file index) 40 file ∙ ap (λ (l : List ℕ). field 4 40 l) at.header
-      ∙ header-link (header_of plan part) at.offset (length (content_of plan part)) at.rest fits.link
+      ∙ header-link (header_of plan part) at.offset (length (part_bytes plan part)) at.rest fits.link
 
   -- its bytes
-  pub content-is : content file index ≡ content_of plan part
+  pub content-is : content file index ≡ part_bytes plan part
   content-is =
       (λ i. if is_empty_type (kind-is i) then [] else piece (offset-is i) (size-is i) file)
-      ∙ ap (λ (b : Bool). if b then [] else piece at.offset (length (content_of plan part)) file) (has-bytes plan part)
+      ∙ ap (λ (b : Bool). if b then [] else piece at.offset (length (part_bytes plan part)) file) (has-bytes plan part)
       ∙ at.bytes
 
   -- the whole section, once the names are known
@@ -139,10 +139,10 @@ sections-are plan file ok short names (part ∷ parts) index are =
 length-headers : (plan : Plan) (parts : List Part) (out : List ℕ) → length (headers_from plan out parts) ≡ 64 * length parts
 length-headers plan [] out = refl
 length-headers plan (part ∷ parts) out =
-    let header = section_header (header_of plan part) (length (filled out)) (length (content_of plan part)) in
-    let next = headers_from plan (filled out ++ content_of plan part) parts in
+    let header = section_header (header_of plan part) (length (filled out)) (length (part_bytes plan part)) in
+    let next = headers_from plan (filled out ++ part_bytes plan part) parts in
     let sum : length (header ++ next) ≡ 64 + length next = length-append header next in
-    let rest : length next ≡ 64 * length parts = length-headers plan parts (filled out ++ content_of plan part) in
+    let rest : length next ≡ 64 * length parts = length-headers plan parts (filled out ++ part_bytes plan part) in
     omega arith
 
 -- what the file of a plan has: nine sections, of which the first is all zeros
@@ -152,6 +152,7 @@ pub record IsLaid (plan : Plan) (file : List ℕ) : Type 0 where
   pub long : length file ≡ e_shoff file + 576
   pub some : 64 ≤ e_shoff file
   pub short : length file < 256 ^ 4
+  pub within : length file ≤ 67108864
   pub headers : List ℕ
   pub first : drop (e_shoff file + 64 * 0) file ≡ replicate 64 0 ++ headers
   pub standing : AreStanding plan file 1 parts
@@ -176,6 +177,7 @@ laid-file plan whole zeros headers some short count empty is are =
       long = omega arith;
       some = omega arith;
       short = omega arith;
+      within = omega arith;
       headers = headers;
       first = first ∙ ap (λ (l : List ℕ). l ++ headers) empty;
       standing = standing plan file whole (zeros ++ headers) (whole-ahead (elf_header (length whole)) whole zeros headers head some blank)

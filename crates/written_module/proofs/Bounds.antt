@@ -4,8 +4,8 @@ use Rattle.std.specs.Prelude.{not, nat_lt, nat_le, nat_eq}
 use Rattle.std.specs.List.{list_all}
 use Rattle.std.proofs.lemmas.Bool.{and_parts, leb-true, eqb-true}
 use Rattle.std.proofs.lemmas.List.{length-append, length-replicate}
-use Rattle.elf_build.specs.declared.tables.Table.{Table}
-use Rattle.elf_build.specs.declared.tables.Table.TheVariants.{Jumps, Calls, Traces}
+use Rattle.elf_build.specs.declared.tables.PlanTable.{PlanTable}
+use Rattle.elf_build.specs.declared.tables.PlanTable.TheVariants.{Jumps, Calls, Traces}
 use Rattle.elf_build.specs.declared.sections.Part.{Part}
 use Rattle.elf_build.specs.declared.sections.Part.TheVariants.{Text, Entries, Data, Symbols, Names, SectionNames}
 use Rattle.elf_build.specs.declared.plan.Plan.{Plan}
@@ -16,7 +16,7 @@ use Rattle.elf_build.specs.declared.plan.KeyStart.{KeyStart}
 use Rattle.elf_build.specs.declared.plan.KeyStart.TheVariants.{Count, Func}
 use Rattle.elf_build.specs.declared.plan.PlanFunction.{PlanFunction}
 use Rattle.elf_build.specs.Fits.{fits, has_place, is_small, site_fits, key_fits, function_fits, is_name, is_in_text, start_fits}
-use Rattle.elf_build.specs.File.{body, content_of, data_of, entry_bytes, filled, function_symbols, key_symbols, laid, names_of, names_of_functions, names_of_keys, symbols_of, data_at, table_at, parts, start_bytes, symbol, table_from}
+use Rattle.elf_build.specs.File.{body, part_bytes, data_of, entry_bytes, filled, function_symbols, key_symbols, laid, names_of, names_of_functions, names_of_keys, symbol_table, data_at, table_at, parts, start_bytes, symbol, table_from}
 
 -- what a plan that fits has
 pub record Bounds (plan : Plan) : Type 0 where
@@ -66,7 +66,7 @@ length-table entry each (site ∷ sites) field =
     omega arith
 
 -- an entry of each table has at most 16 bytes
-pub length-entry : (table : Table) (plan : Plan) (field : ℕ) (site : PlanSite) → length (entry_bytes table plan field site) ≤ 16
+pub length-entry : (table : PlanTable) (plan : Plan) (field : ℕ) (site : PlanSite) → length (entry_bytes table plan field site) ≤ 16
 length-entry Jumps plan field (Jump at target key likely) = omega arith
 length-entry Jumps plan field (Call at key tail) = omega arith
 length-entry Jumps plan field (Trace at) = omega arith
@@ -149,7 +149,7 @@ length-names_of_keys (key ∷ keys) all =
 -- how many bytes the sections take at most, each filled up
 abbrev pub room : Plan → List Part → ℕ
 room plan [] = 16
-room plan (part ∷ parts) = length (content_of plan part) + 16 + room plan parts
+room plan (part ∷ parts) = length (part_bytes plan part) + 16 + room plan parts
 
 -- at most 16 zeros make a list at most 16 bytes longer
 zeros-short : (out : List ℕ) (n z : ℕ) → n ≤ 16 → length (out ++ replicate n z) ≤ length out + 16
@@ -166,20 +166,20 @@ filled-short out = zeros-short out ((length out + 15) / 16 * 16 - length out) 0 
 pub laid-short : (plan : Plan) (parts : List Part) (out : List ℕ) → length (laid plan out parts) ≤ length out + room plan parts
 laid-short plan [] out = filled-short out
 laid-short plan (part ∷ parts) out =
-    let rest = laid-short plan parts (filled out ++ content_of plan part) in
+    let rest = laid-short plan parts (filled out ++ part_bytes plan part) in
     let prefix = filled-short out in
-    let joined : length (filled out ++ content_of plan part) ≡ length (filled out) + length (content_of plan part) = length-append (filled out) (content_of plan part) in
-    three (length (laid plan (filled out ++ content_of plan part) parts)) (length (filled out ++ content_of plan part)) (length (filled out)) (length out) (length (content_of plan part)) (room plan parts) rest prefix joined
+    let joined : length (filled out ++ part_bytes plan part) ≡ length (filled out) + length (part_bytes plan part) = length-append (filled out) (part_bytes plan part) in
+    three (length (laid plan (filled out ++ part_bytes plan part) parts)) (length (filled out ++ part_bytes plan part)) (length (filled out)) (length out) (length (part_bytes plan part)) (room plan parts) rest prefix joined
   where
     three : (whole next full before content rest : ℕ) → whole ≤ next + rest → full ≤ before + 16 → next ≡ full + content → whole ≤ before + (content + 16 + rest)
     three whole next full before content rest a b c = omega arith
 
 -- all symbols have 24 bytes each, the empty one too
-pub length-symbols : (plan : Plan) → Bounds plan → length (symbols_of plan) ≡ 24 * (1 + length plan.functions.items + length plan.keys.items)
+pub length-symbols : (plan : Plan) → Bounds plan → length (symbol_table plan) ≡ 24 * (1 + length plan.functions.items + length plan.keys.items)
 length-symbols plan ok =
     let functions = function_symbols 1 plan.functions.items in
     let keys = key_symbols (1 + length (names_of_functions plan.functions.items)) (data_at plan) plan.keys.items in
-    let all : length (symbols_of plan) ≡ 24 + length (functions ++ keys) = length-append (symbol 0 0 0 0 0) (functions ++ keys) in
+    let all : length (symbol_table plan) ≡ 24 + length (functions ++ keys) = length-append (symbol 0 0 0 0 0) (functions ++ keys) in
     let sum : length (functions ++ keys) ≡ length functions + length keys = length-append functions keys in
     let f : length functions ≡ 24 * length plan.functions.items = length-function_symbols plan.functions.items 1 in
     let k : length keys ≡ 24 * length plan.keys.items = length-key_symbols plan.keys.items (1 + length (names_of_functions plan.functions.items)) (data_at plan) in
@@ -198,7 +198,7 @@ length-names plan ok =
     omega arith
 
 -- the bytes of a section
-pub content-short : (plan : Plan) → Bounds plan → (part : Part) → length (content_of plan part) ≤ 262144
+pub content-short : (plan : Plan) → Bounds plan → (part : Part) → length (part_bytes plan part) ≤ 262144
 content-short plan ok Text = let t = ok.text in omega arith
 content-short plan ok (Entries table) = let t = ok.sites in let l = length-table (entry_bytes table plan) (length-entry table plan) plan.sites.items (table_at table plan) in omega arith
 content-short plan ok Data = let k = ok.keys in let l = length-data plan.keys.items in omega arith

@@ -1,0 +1,12 @@
+pub mod Fields
+pub mod Standing
+pub mod Bounds
+pub mod Sections
+pub mod Leads
+pub mod Rows
+pub mod Tables
+pub mod NamePlaces
+pub mod SymbolRows
+pub mod KeyBytes
+pub mod Passing
+pub mod ReadBack
