@@ -22,6 +22,9 @@ pub mod Joined
 pub mod Sound
 pub mod KeyNumbers
 pub mod TextLength
+pub mod TextSize
+pub mod KeyCount
+pub mod NamedKeys
 pub mod Reached
 pub mod Grounds
 pub mod StartLaws
@@ -35,3 +38,5 @@ pub mod HeldWanted
 pub mod Flowing
 pub mod PlainFlows
 pub mod SiteFlows
+pub mod Lent
+pub mod FileBytes

@@ -33,7 +33,7 @@ pub call_lens_passed : (elf : Elf) → HaveCallLens (sites elf)
 call_lens_passed elf =
     sites_call_lens (base elf) (file_text elf) (key_addresses elf Jump) (key_addresses elf Call) (entries elf)
 
-few_passed : (elf : Elf) → Passes elf 8 → length (sites elf) ≤ 1024
+pub few_passed : (elf : Elf) → Passes elf 8 → length (sites elf) ≤ 1024
 few_passed elf passes =
     let same = few_sites (site_of (base elf) (file_text elf) (key_addresses elf Jump) (key_addresses elf Call)) (entries elf) in
     let few = few_entries elf (passes_before elf 5 8 (omega arith) passes) in

@@ -13,6 +13,7 @@ use Rattle.module_image.specs.Keys.{keys}
 use Rattle.module_image.specs.Refusals.{Passes}
 use Rattle.module_image.specs.Sites.{early_form, form_code, put_at, site_written, sites, starts_of, text, written}
 use Rattle.module_image.specs.Text.{AreInside, IsInside}
+use Rattle.module_image.specs.Wants.{state_of}
 use Rattle.module_image.proofs.Sound.{call_lens_passed, inside_passed}
 use Rattle.module_image.proofs.WantedForms.{size_wanted}
 
@@ -43,7 +44,7 @@ length_site base states s bytes inside five = by s.foreign
         let from = inside.from in
         let to = inside.to in
         let most = code_most (early_form states s) s.at in
-        let same : size (early_form states s) ≡ s.len = size_wanted 0 states false s.len s.kind inside.two_or_five five in
+        let same : size (early_form states s) ≡ s.len = size_wanted 0 (state_of states s.kind) false s.len s.kind inside.two_or_five five in
         length_put bytes (form_code (early_form states s) s.at) (s.at - base) (omega (arith, from, to, most, same))
 
 -- and to write all sites
