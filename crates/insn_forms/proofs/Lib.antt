@@ -1,3 +1,4 @@
+pub mod Displacements
 pub mod Spellings
 pub mod Examples
 mod Decoding

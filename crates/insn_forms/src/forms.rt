@@ -58,6 +58,7 @@ impl Form {
     #[tactic(auto, unfolding(crate::specs::Spelling::spell))]
     pub fn encode(&self, at: u64) -> Result<CodeBytes, NoReach>
         ensures bytes { IfOk result (λ code. spell self.now at ≡ Some code.items) }
+        ensures length { IfOk result (λ code. length code.items ≡ size self.now) }
         ensures no_reach { OnErr result (spell self.now at ≡ None) }
     {
         match *self {

@@ -10,9 +10,10 @@ use Rattle.x64_subset.specs.Spells.{Stands, IsCut, IsUnknown}
 use Rattle.x64_subset.specs.Reading.{Answer, read}
 use Rattle.x64_subset.specs.Subset.{is_listed}
 use Rattle.x64_subset.proofs.Spelt.{reads_spelt}
-use Rattle.x64_subset.proofs.Listed.{length-spells, spelt_listed, spells-bytes}
+use Rattle.x64_subset.proofs.Listed.{spells-bytes}
 use Rattle.x64_subset.proofs.Exact.{AreBytes}
 use Rattle.x64_subset.proofs.Table.{exact_read}
+use Rattle.x64_subset.proofs.WhatIsRead.{answer_found}
 
 -- numbers that are bytes at each index
 pub bytes_at : (bytes : List ℕ) → ((i : ℕ) → get_or bytes i 0 < 256) → AreBytes bytes
@@ -94,21 +95,15 @@ answer_stands at bytes a fit same insn len =
     (λ e. read_stands at bytes insn len fit (sym same ∙ e), λ s. same ∙ stands_read at bytes insn len s)
 
 -- such an answer is of the subset
-pub answer_listed : (at : ℕ) (bytes : List ℕ) (a : Answer) → AreBytes bytes → a ≡ read at bytes → IfOk a (λ found. is_listed found.0 ≡ true)
-answer_listed at bytes (Ok (insn, len)) fit same =
-    spelt_listed insn at (take len bytes) (read_stands at bytes insn len fit (sym same)).spelt
-answer_listed at bytes (Err fail) fit same = tt
+pub answer_listed : (at : ℕ) (bytes : List ℕ) (a : Answer) → a ≡ read at bytes → IfOk a (λ found. is_listed found.0 ≡ true)
+answer_listed at bytes (Ok (insn, len)) same = (answer_found at bytes (Ok (insn, len)) same).0
+answer_listed at bytes (Err fail) same = tt
 
 -- such an answer has 1 to 9 bytes, all of which are there
-pub answer_length : (at : ℕ) (bytes : List ℕ) (a : Answer) → AreBytes bytes → a ≡ read at bytes → IfOk a (λ found. (1 ≤ found.1) × (found.1 ≤ 9) × (found.1 ≤ length bytes))
-answer_length at bytes (Ok (insn, len)) fit same =
-    let stands = read_stands at bytes insn len fit (sym same) in
-    let spelt = length-spells insn at (take len bytes) stands.spelt in
-    let all : length (take len bytes) ≡ len = length-take-le len bytes stands.inside in
-    let least = spelt.0 in
-    let most = spelt.1 in
-    (omega arith, omega arith, stands.inside)
-answer_length at bytes (Err fail) fit same = tt
+pub answer_length : (at : ℕ) (bytes : List ℕ) (a : Answer) → a ≡ read at bytes → IfOk a (λ found. (1 ≤ found.1) × (found.1 ≤ 9) × (found.1 ≤ length bytes))
+answer_length at bytes (Ok (insn, len)) same =
+    let found = answer_found at bytes (Ok (insn, len)) same in (found.1, found.2, found.3)
+answer_length at bytes (Err fail) same = tt
 
 -- such an answer tells what is cut
 pub answer_short : (at : ℕ) (bytes : List ℕ) (a : Answer) → AreBytes bytes → a ≡ read at bytes → (a ≡ Err Short) ↔ IsCut at bytes

@@ -9,7 +9,7 @@ use Rattle.x64_subset.specs.declared.insn.Insn.{Insn}
 use Rattle.x64_subset.specs.declared.insn.Undecoded.TheVariants.{Short, Unknown}
 use Rattle.x64_subset.specs.Subset.{is_register}
 use Rattle.x64_subset.specs.Spells.{Spells, Stands, IsCut, mod_rm}
-use Rattle.x64_subset.specs.Reading.{Answer, Reading, whole, unknown, byte, expect, four}
+use Rattle.x64_subset.specs.Reading.{Answer, Reading, complete, unknown, byte, expect, four}
 use Rattle.x64_subset.specs.Reading as reading
 use Rattle.x64_subset.proofs.Operands.{mod_rm_is}
 
@@ -32,8 +32,8 @@ stands_spelt insn at code rest is = record {
 }
 
 -- the instruction ends here
-pub exact_whole : (at : ℕ) (prefix : List ℕ) (insn : Insn) (len : ℕ) → length prefix ≡ len → Spells insn at prefix → IsExact at prefix (whole insn len)
-exact_whole at prefix insn len same is = record {
+pub exact_complete : (at : ℕ) (prefix : List ℕ) (insn : Insn) (len : ℕ) → length prefix ≡ len → Spells insn at prefix → IsExact at prefix (complete insn len)
+exact_complete at prefix insn len same is = record {
   stands = λ other n bytes fit e.
       let place : Stands insn (length prefix) at (prefix ++ bytes) = stands_spelt insn at prefix bytes is in
       let both : (insn, len) ≡ (other, n) = cc in
@@ -163,15 +163,15 @@ four_more : (prefix : List ℕ) (a b c d : ℕ) → (((prefix ++ a ∷ []) ++ b 
 four_more prefix a b c d = simp append_assoc
 
 -- an operand's last byte ends the instruction
-exact_last : (at : ℕ) (prefix code : List ℕ) (insn : Insn) (len : ℕ) → prefix ≡ code → length code ≡ len → Spells insn at code → IsOperand at prefix (whole insn len)
+exact_last : (at : ℕ) (prefix code : List ℕ) (insn : Insn) (len : ℕ) → prefix ≡ code → length code ≡ len → Spells insn at code → IsOperand at prefix (complete insn len)
 exact_last at prefix code insn len same size is =
     let spelt : Spells insn at prefix = subst (λ (l : List ℕ). Spells insn at l) (sym same) is in (
-      exact_whole at prefix insn len (ap length same ∙ size) spelt,
+      exact_complete at prefix insn len (ap length same ∙ size) spelt,
       record { insn = insn; rest = []; spelt = subst (λ (l : List ℕ). Spells insn at l) (sym (append-nil prefix)) spelt },
     )
 
 -- four bytes end an instruction
-pub exact_four : (at : ℕ) (prefix : List ℕ) (insn : List ℕ → Insn) (len : ℕ) → length prefix + 4 ≡ len → ((a b c d : ℕ) → a < 256 → b < 256 → c < 256 → d < 256 → Spells (insn (a ∷ b ∷ c ∷ d ∷ [])) at (prefix ++ a ∷ b ∷ c ∷ d ∷ [])) → IsExact at prefix (four (λ bytes. whole (insn bytes) len))
+pub exact_four : (at : ℕ) (prefix : List ℕ) (insn : List ℕ → Insn) (len : ℕ) → length prefix + 4 ≡ len → ((a b c d : ℕ) → a < 256 → b < 256 → c < 256 → d < 256 → Spells (insn (a ∷ b ∷ c ∷ d ∷ [])) at (prefix ++ a ∷ b ∷ c ∷ d ∷ [])) → IsExact at prefix (four (λ bytes. complete (insn bytes) len))
 exact_four at prefix insn len same each =
     (exact_operand at prefix _
     (λ a p. exact_operand at _ _
@@ -180,7 +180,7 @@ exact_four at prefix insn len same each =
     (λ d s. exact_last at _ _ _ len (four_more prefix a b c d) (length-append prefix (a ∷ b ∷ c ∷ d ∷ []) ∙ same) (each a b c d p q r s)))))).0
 
 -- a byte that names two registers, or a digit and a register
-pub exact_mod_rm : (at : ℕ) (prefix : List ℕ) (next : ℕ → ℕ → Reading) → IsCut at prefix → ((reg rm : ℕ) → reg < 8 → is_register rm ≡ true → IsExact at (prefix ++ mod_rm reg rm ∷ []) (next reg rm)) → IsExact at prefix (reading.mod_rm next)
+pub exact_mod_rm : (at : ℕ) (prefix : List ℕ) (next : ℕ → ℕ → Reading) → IsCut at prefix → ((reg rm : ℕ) → reg < 8 → is_register rm ≡ true → IsExact at (prefix ++ mod_rm reg rm ∷ []) (next reg rm)) → IsExact at prefix (reading.by_mod_rm next)
 exact_mod_rm at prefix next here each =
     exact_byte at prefix _ here
     (λ b p. exact_if (nat_le 0xc0 b && is_register (b % 8))

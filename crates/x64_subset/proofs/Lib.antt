@@ -1,10 +1,14 @@
 pub mod Operands
-pub mod Displacements
 pub mod Spelt
 pub mod Listed
 pub mod Exact
 pub mod Table
+pub mod WhatIsRead
 pub mod Answered
 pub mod Opcodes
 pub mod Lawful
+pub mod ReadingLaws
+pub mod Ended
 pub mod Examples
+pub mod FormExamples
+pub mod ReadExamples

@@ -10,7 +10,7 @@ use Rattle.x64_subset.specs.declared.insn.Insn.{Insn}
 use Rattle.x64_subset.specs.declared.insn.Insn.TheVariants.{Nop, Int3, Jmp8, Jmp32, Call, Ret, Jcc8, Jcc32, Alu, AluImm, Inc, Dec, MovImm, Hlt, Ud2, Out, Endbr64, Serialize}
 use Rattle.x64_subset.specs.Subset.{is_listed, is_register, digit_of}
 use Rattle.x64_subset.specs.Spells.{Spells, Leads, alu_opcode, mod_rm}
-use Rattle.x64_subset.proofs.Displacements.{relative}
+use Rattle.insn_forms.proofs.Displacements.{relative}
 use Rattle.x64_subset.proofs.Operands.{register_facts, condition_facts}
 use Rattle.x64_subset.proofs.Exact.{AreBytes}
 use Rattle.x64_subset.proofs.Spelt.{by_nop}

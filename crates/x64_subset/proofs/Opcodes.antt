@@ -4,7 +4,7 @@ use Rattle.std.proofs.lemmas.Bool.Decides.{Decides-eqb, nat_tests}
 use Rattle.poke_base.specs.Text.{IsPrefix}
 use Rattle.x64_subset.specs.declared.insn.Insn.{Insn}
 use Rattle.x64_subset.specs.declared.insn.Undecoded.TheVariants.{Short, Unknown}
-use Rattle.x64_subset.specs.Reading.{Answer, Reading, whole, unknown, expect, mov_imm, jcc8, jcc32, escaped, first}
+use Rattle.x64_subset.specs.Reading.{Answer, Reading, complete, unknown, expect, mov_imm, jcc8, jcc32, escaped, first}
 
 -- an answer that holds where a number is known
 pub where_is : (k : ℕ → Reading) (n c : ℕ) (rest : List ℕ) (a : Answer) → n ≡ c → a ≡ k c rest → a ≡ k n rest
@@ -36,31 +36,31 @@ prefix_more : (c b : ℕ) (code rest : List ℕ) → b ≡ c → IsPrefix code r
 prefix_more c b code rest same prefix = cc
 
 -- bytes that follow
-pub expect_starts : (code rest : List ℕ) (insn : Insn) (len : ℕ) → IsPrefix code rest → expect code (whole insn len) rest ≡ Ok (insn, len)
+pub expect_starts : (code rest : List ℕ) (insn : Insn) (len : ℕ) → IsPrefix code rest → expect code (complete insn len) rest ≡ Ok (insn, len)
 expect_starts [] rest insn len prefix = refl
 expect_starts (c ∷ code) [] insn len prefix = absurd (cc)
 expect_starts (c ∷ code) (b ∷ rest) insn len prefix =
     let parts = prefix_less c b code rest prefix in
-    ap (λ (t : Bool). if t then expect code (whole insn len) rest else Err Unknown) ((Decides-eqb b c).1 parts.0)
+    ap (λ (t : Bool). if t then expect code (complete insn len) rest else Err Unknown) ((Decides-eqb b c).1 parts.0)
     ∙ expect_starts code rest insn len parts.1
 
 -- bytes that end before those that have to follow
-pub expect_short : (code rest : List ℕ) (insn : Insn) (len : ℕ) → (IsPrefix code rest → ⊥) → IsPrefix rest code → expect code (whole insn len) rest ≡ Err Short
+pub expect_short : (code rest : List ℕ) (insn : Insn) (len : ℕ) → (IsPrefix code rest → ⊥) → IsPrefix rest code → expect code (complete insn len) rest ≡ Err Short
 expect_short [] rest insn len other prefix = absurd (other refl)
 expect_short (c ∷ code) [] insn len other prefix = refl
 expect_short (c ∷ code) (b ∷ rest) insn len other prefix =
     let parts = prefix_less b c rest code prefix in
-    ap (λ (t : Bool). if t then expect code (whole insn len) rest else Err Unknown) ((Decides-eqb b c).1 (sym parts.0))
+    ap (λ (t : Bool). if t then expect code (complete insn len) rest else Err Unknown) ((Decides-eqb b c).1 (sym parts.0))
     ∙ expect_short code rest insn len (λ more. other (prefix_more c b code rest (sym parts.0) more)) parts.1
 
 -- other bytes
-pub expect_unknown : (code rest : List ℕ) (insn : Insn) (len : ℕ) → (IsPrefix code rest → ⊥) → (IsPrefix rest code → ⊥) → expect code (whole insn len) rest ≡ Err Unknown
+pub expect_unknown : (code rest : List ℕ) (insn : Insn) (len : ℕ) → (IsPrefix code rest → ⊥) → (IsPrefix rest code → ⊥) → expect code (complete insn len) rest ≡ Err Unknown
 expect_unknown [] rest insn len other longer = absurd (other refl)
 expect_unknown (c ∷ code) [] insn len other longer = absurd (longer refl)
 expect_unknown (c ∷ code) (b ∷ rest) insn len other longer =
     go (b == c) refl
     (λ same. expect_unknown code rest insn len (λ more. other (prefix_more c b code rest same more)) (λ more. longer (prefix_more b c rest code (sym same) more)))
   where
-    go : (t : Bool) → (b == c) ≡ t → (b ≡ c → expect code (whole insn len) rest ≡ Err Unknown) → (if t then expect code (whole insn len) rest else Err Unknown) ≡ Err Unknown
+    go : (t : Bool) → (b == c) ≡ t → (b ≡ c → expect code (complete insn len) rest ≡ Err Unknown) → (if t then expect code (complete insn len) rest else Err Unknown) ≡ Err Unknown
     go true is after = after ((Decides-eqb b c).0 is)
     go false is after = refl

@@ -14,10 +14,10 @@ use Rattle.x64_subset.specs.declared.insn.Insn.{Insn}
 use Rattle.x64_subset.specs.declared.insn.Insn.TheVariants.{Nop, Int3, Jmp8, Jmp32, Call, Ret, Jcc8, Jcc32, Alu, AluImm, Inc, Dec, MovImm, Hlt, Ud2, Out, Endbr64, Serialize}
 use Rattle.x64_subset.specs.Subset.{is_register, is_condition, digit_of}
 use Rattle.x64_subset.specs.Spells.{Spells, Leads, nop_bytes, alu_opcode, mod_rm}
-use Rattle.x64_subset.specs.Reading.{Answer, Reading, read, alu, two_registers, by_digit, stepped, unknown}
+use Rattle.x64_subset.specs.Reading.{Answer, Reading, read, alu, two_registers, by_digit, one_register, unknown}
 use Rattle.x64_subset.specs.Reading as reading
 use Rattle.x64_subset.proofs.Operands.{by_register, by_condition, register_facts, mod_rm-reg, mod_rm-rm}
-use Rattle.x64_subset.proofs.Displacements.{relative}
+use Rattle.insn_forms.proofs.Displacements.{relative}
 
 -- what holds of a value that a test chose, in either case
 chosen : (P : Type 0) (n c : ℕ) (x y : Option (List ℕ)) (code : List ℕ) → (if n == c then x else y) ≡ Some code → (c ≡ n → x ≡ Some code → P) → (y ≡ Some code → P) → P
@@ -90,7 +90,7 @@ read_jcc32 at k is a b c d rest =
     refl refl refl refl refl refl refl refl refl refl refl refl refl refl k is
 
 -- the byte that names a digit and a register
-pub read_mod_rm : (next : ℕ → ℕ → Reading) (reg rm : ℕ) (rest : List ℕ) → is_register rm ≡ true → reading.mod_rm next (mod_rm reg rm ∷ rest) ≡ next reg rm rest
+pub read_mod_rm : (next : ℕ → ℕ → Reading) (reg rm : ℕ) (rest : List ℕ) → is_register rm ≡ true → reading.by_mod_rm next (mod_rm reg rm ∷ rest) ≡ next reg rm rest
 read_mod_rm next reg rm rest is =
     let below : rm < 8 = (register_facts rm is).0 in
     let b : ℕ = mod_rm reg rm in
@@ -115,7 +115,7 @@ read_opcode at Mov rest = refl
 read_alu : (at : ℕ) (op : AluOp) (rm reg : ℕ) → is_register rm ≡ true → is_register reg ≡ true → IsReadOf (Alu op rm reg) at (alu_opcode op ∷ mod_rm reg rm ∷ [])
 read_alu at op rm reg p q rest =
     read_opcode at op (mod_rm reg rm ∷ rest) ∙ read_mod_rm (two_registers op) reg rm rest p
-    ∙ ap (λ (t : Bool). (if t then reading.whole (Alu op rm reg) 2 else unknown) rest) q
+    ∙ ap (λ (t : Bool). (if t then reading.complete (Alu op rm reg) 2 else unknown) rest) q
 
 -- an operation with a byte, by its digit
 read_alu_imm : (at : ℕ) (op : AluOp) (digit rm byte : ℕ) → digit_of op ≡ Some digit → is_register rm ≡ true → IsReadOf (AluImm op rm byte) at (0x83 ∷ mod_rm digit rm ∷ byte ∷ [])
@@ -163,8 +163,8 @@ reads_spelt (Jcc32 condition target) at code (p, is) =
 reads_spelt (Alu op rm reg) at code (p, q, is) = of_bytes _ at _ _ is (read_alu at op rm reg p q)
 reads_spelt (AluImm op rm byte) at code (digit, some, p, fits, is) =
     of_bytes _ at _ _ is (read_alu_imm at op digit rm byte some p)
-reads_spelt (Inc rm) at code (p, is) = of_bytes _ at _ _ is (λ rest. read_mod_rm stepped 0 rm rest p)
-reads_spelt (Dec rm) at code (p, is) = of_bytes _ at _ _ is (λ rest. read_mod_rm stepped 1 rm rest p)
+reads_spelt (Inc rm) at code (p, is) = of_bytes _ at _ _ is (λ rest. read_mod_rm one_register 0 rm rest p)
+reads_spelt (Dec rm) at code (p, is) = of_bytes _ at _ _ is (λ rest. read_mod_rm one_register 1 rm rest p)
 reads_spelt (MovImm r number) at code (p, fits, is) = of_bytes _ at _ _ is (read_mov_imm at r number p fits)
 reads_spelt Hlt at code is = of_bytes _ at _ _ is (λ rest. refl)
 reads_spelt Ud2 at code is = of_bytes _ at _ _ is (λ rest. refl)

@@ -9,16 +9,16 @@ use Rattle.x64_subset.specs.declared.insn.Insn.{Insn}
 use Rattle.x64_subset.specs.declared.insn.Insn.TheVariants.{Nop, Int3, Jmp8, Jmp32, Call, Ret, Jcc8, Jcc32, Alu, AluImm, Inc, Dec, MovImm, Hlt, Ud2, Out, Endbr64, Serialize}
 use Rattle.x64_subset.specs.Subset.{is_register, is_condition, digit_of}
 use Rattle.x64_subset.specs.Spells.{Spells, Leads, alu_opcode, mod_rm}
-use Rattle.x64_subset.specs.Reading.{near, far, alu, two_registers, with_byte, by_digit, alu_imm, stepped, step, mov_imm, jcc8, jcc32, prefixed_nop, prefixed, long_nop, escaped, first, read}
-use Rattle.x64_subset.proofs.Displacements.{displacement8, displacement32, after-below, four_bytes}
-use Rattle.x64_subset.proofs.Exact.{IsExact, exact_whole, exact_unknown, exact_if, exact_on, exact_in, exact_byte, exact_expect, exact_four, exact_mod_rm, cut_by}
+use Rattle.x64_subset.specs.Reading.{near, far, alu, two_registers, with_byte, by_digit, alu_imm, one_register, inc_or_dec, mov_imm, jcc8, jcc32, prefixed_nop, prefixed, long_nop, escaped, first, read}
+use Rattle.insn_forms.proofs.Displacements.{displacement8, displacement32, after-below, four_bytes}
+use Rattle.x64_subset.proofs.Exact.{IsExact, exact_complete, exact_unknown, exact_if, exact_on, exact_in, exact_byte, exact_expect, exact_four, exact_mod_rm, cut_by}
 
 -- an opcode and a displacement of one byte
 exact_near : (at : ℕ) (opcode : List ℕ) (len : ℕ) (insn : ℕ → Insn) → length opcode + 1 ≡ len → ((target : ℕ) (code : List ℕ) → Leads w8 opcode at target code → Spells (insn target) at code) → IsExact at opcode (near at len insn)
 exact_near at opcode len insn same is =
     exact_byte at opcode _ (cut_by _ at opcode 0 [] (is _ _ (leads_8 0 (omega arith))))
     (λ rel p.
-    exact_whole at (opcode ++ rel ∷ []) _ len (length-append opcode (rel ∷ []) ∙ same) (is _ _ (leads_8 rel p)))
+    exact_complete at (opcode ++ rel ∷ []) _ len (length-append opcode (rel ∷ []) ∙ same) (is _ _ (leads_8 rel p)))
   where
     leads_8 : (rel : ℕ) → rel < 256 → Leads w8 opcode at (leads w8 (after at len) (rel ∷ [])) (opcode ++ rel ∷ [])
     leads_8 rel p =
@@ -36,14 +36,14 @@ exact_alu : (at : ℕ) (op : AluOp) → IsExact at (alu_opcode op ∷ []) (alu o
 unfolding Spells
 exact_alu at op =
     exact_mod_rm at (alu_opcode op ∷ []) (two_registers op) (cut_by (Alu op 0 0) at _ (mod_rm 0 0) [] (refl, refl, refl))
-    (λ reg rm small p. exact_if (is_register reg) (λ q. exact_whole at _ (Alu op rm reg) 2 refl (p, q, refl)) (exact_unknown at _))
+    (λ reg rm small p. exact_if (is_register reg) (λ q. exact_complete at _ (Alu op rm reg) 2 refl (p, q, refl)) (exact_unknown at _))
 
 -- an operation with a byte
 exact_with_byte : (at : ℕ) (op : AluOp) (digit rm : ℕ) → digit_of op ≡ Some digit → is_register rm ≡ true → IsExact at (0x83 ∷ mod_rm digit rm ∷ []) (with_byte op rm)
 unfolding Spells
 exact_with_byte at op digit rm some p =
     exact_byte at _ _ (cut_by (AluImm op rm 0) at _ 0 [] (digit, some, p, omega arith, refl))
-    (λ number q. exact_whole at _ (AluImm op rm number) 3 refl (digit, some, p, q, refl))
+    (λ number q. exact_complete at _ (AluImm op rm number) 3 refl (digit, some, p, q, refl))
 
 exact_alu_imm : (at : ℕ) → IsExact at (0x83 ∷ []) alu_imm
 unfolding Spells
@@ -56,14 +56,14 @@ exact_alu_imm at =
     (exact_on prefix digit 7 (exact_with_byte at Cmp 7 rm refl p) (exact_unknown at _))))
 
 -- one more or one less
-exact_step : (at : ℕ) → IsExact at (0xff ∷ []) step
+exact_inc_or_dec : (at : ℕ) → IsExact at (0xff ∷ []) inc_or_dec
 unfolding Spells
-exact_step at =
-    exact_mod_rm at _ stepped (cut_by (Inc 0) at _ (mod_rm 0 0) [] (refl, refl))
+exact_inc_or_dec at =
+    exact_mod_rm at _ one_register (cut_by (Inc 0) at _ (mod_rm 0 0) [] (refl, refl))
     (λ digit rm small p.
     let prefix : ℕ → List ℕ = λ d. 0xff ∷ mod_rm d rm ∷ [] in
-    exact_on prefix digit 0 (exact_whole at _ (Inc rm) 2 refl (p, refl))
-    (exact_on prefix digit 1 (exact_whole at _ (Dec rm) 2 refl (p, refl)) (exact_unknown at _)))
+    exact_on prefix digit 0 (exact_complete at _ (Inc rm) 2 refl (p, refl))
+    (exact_on prefix digit 1 (exact_complete at _ (Dec rm) 2 refl (p, refl)) (exact_unknown at _)))
 
 -- a number into a register
 exact_mov_imm : (at r : ℕ) → IsExact at ((0xb8 + r) ∷ []) (mov_imm r)
@@ -79,8 +79,8 @@ exact_prefixed_nop : (at b : ℕ) → IsExact at (0x66 ∷ 0x0f ∷ 0x1f ∷ b �
 unfolding Spells
 exact_prefixed_nop at b =
     let prefix : ℕ → List ℕ = λ b. 0x66 ∷ 0x0f ∷ 0x1f ∷ b ∷ [] in
-    exact_on prefix b 0x44 (exact_expect (Nop 6) [] at _ _ _ refl (exact_whole at _ (Nop 6) 6 refl refl))
-    (exact_on prefix b 0x84 (exact_expect (Nop 9) [] at _ _ _ refl (exact_whole at _ (Nop 9) 9 refl refl))
+    exact_on prefix b 0x44 (exact_expect (Nop 6) [] at _ _ _ refl (exact_complete at _ (Nop 6) 6 refl refl))
+    (exact_on prefix b 0x84 (exact_expect (Nop 9) [] at _ _ _ refl (exact_complete at _ (Nop 9) 9 refl refl))
     (exact_unknown at _))
 
 -- after 66
@@ -88,7 +88,7 @@ exact_prefixed : (at b : ℕ) → IsExact at (0x66 ∷ b ∷ []) (prefixed b)
 unfolding Spells
 exact_prefixed at b =
     let prefix : ℕ → List ℕ = λ b. 0x66 ∷ b ∷ [] in
-    exact_on prefix b 0x90 (exact_whole at _ (Nop 2) 2 refl refl)
+    exact_on prefix b 0x90 (exact_complete at _ (Nop 2) 2 refl refl)
     (exact_on prefix b 0x0f
     (exact_expect (Nop 6) (0x44 ∷ 0x00 ∷ 0x00 ∷ []) at _ (0x1f ∷ []) _ refl
     (exact_byte at _ prefixed_nop (cut_by (Nop 6) at _ 0x44 (0x00 ∷ 0x00 ∷ []) refl) (λ b p. exact_prefixed_nop at b)))
@@ -99,11 +99,11 @@ exact_long_nop : (at b : ℕ) → IsExact at (0x0f ∷ 0x1f ∷ b ∷ []) (long_
 unfolding Spells
 exact_long_nop at b =
     let prefix : ℕ → List ℕ = λ b. 0x0f ∷ 0x1f ∷ b ∷ [] in
-    exact_on prefix b 0x00 (exact_whole at _ (Nop 3) 3 refl refl)
-    (exact_on prefix b 0x40 (exact_expect (Nop 4) [] at _ _ _ refl (exact_whole at _ (Nop 4) 4 refl refl))
-    (exact_on prefix b 0x44 (exact_expect (Nop 5) [] at _ _ _ refl (exact_whole at _ (Nop 5) 5 refl refl))
-    (exact_on prefix b 0x80 (exact_expect (Nop 7) [] at _ _ _ refl (exact_whole at _ (Nop 7) 7 refl refl))
-    (exact_on prefix b 0x84 (exact_expect (Nop 8) [] at _ _ _ refl (exact_whole at _ (Nop 8) 8 refl refl))
+    exact_on prefix b 0x00 (exact_complete at _ (Nop 3) 3 refl refl)
+    (exact_on prefix b 0x40 (exact_expect (Nop 4) [] at _ _ _ refl (exact_complete at _ (Nop 4) 4 refl refl))
+    (exact_on prefix b 0x44 (exact_expect (Nop 5) [] at _ _ _ refl (exact_complete at _ (Nop 5) 5 refl refl))
+    (exact_on prefix b 0x80 (exact_expect (Nop 7) [] at _ _ _ refl (exact_complete at _ (Nop 7) 7 refl refl))
+    (exact_on prefix b 0x84 (exact_expect (Nop 8) [] at _ _ _ refl (exact_complete at _ (Nop 8) 8 refl refl))
     (exact_unknown at _)))))
 
 -- after 0F
@@ -111,8 +111,8 @@ exact_escaped : (at b : ℕ) → IsExact at (0x0f ∷ b ∷ []) (escaped at b)
 unfolding Spells
 exact_escaped at b =
     let prefix : ℕ → List ℕ = λ b. 0x0f ∷ b ∷ [] in
-    exact_on prefix b 0x01 (exact_expect Serialize [] at _ _ _ refl (exact_whole at _ Serialize 3 refl refl))
-    (exact_on prefix b 0x0b (exact_whole at _ Ud2 2 refl refl)
+    exact_on prefix b 0x01 (exact_expect Serialize [] at _ _ _ refl (exact_complete at _ Serialize 3 refl refl))
+    (exact_on prefix b 0x0b (exact_complete at _ Ud2 2 refl refl)
     (exact_on prefix b 0x1f (exact_byte at _ long_nop (cut_by (Nop 3) at _ 0x00 [] refl) (λ b p. exact_long_nop at b))
     (exact_in prefix (jcc32 at) b 0x80 0x90
     (λ c. exact_if (is_condition c) (λ p. exact_far at _ 6 (Jcc32 c) refl (λ target code is. (p, is))) (exact_unknown at _)) (exact_unknown at _))))
@@ -133,18 +133,18 @@ exact_first at b fits =
     (exact_on prefix b 0x83 (exact_alu_imm at)
     (exact_on prefix b 0x85 (exact_alu at Test)
     (exact_on prefix b 0x89 (exact_alu at Mov)
-    (exact_on prefix b 0x90 (exact_whole at _ (Nop 1) 1 refl refl)
+    (exact_on prefix b 0x90 (exact_complete at _ (Nop 1) 1 refl refl)
     (exact_in prefix mov_imm b 0xb8 0xc0 (exact_mov_imm at)
-    (exact_on prefix b 0xc3 (exact_whole at _ Ret 1 refl refl)
-    (exact_on prefix b 0xcc (exact_whole at _ Int3 1 refl refl)
+    (exact_on prefix b 0xc3 (exact_complete at _ Ret 1 refl refl)
+    (exact_on prefix b 0xcc (exact_complete at _ Int3 1 refl refl)
     (exact_on prefix b 0xe6
-    (exact_byte at _ _ (cut_by (Out 0) at _ 0 [] (omega arith, refl)) (λ port p. exact_whole at _ (Out port) 2 refl (p, refl)))
+    (exact_byte at _ _ (cut_by (Out 0) at _ 0 [] (omega arith, refl)) (λ port p. exact_complete at _ (Out port) 2 refl (p, refl)))
     (exact_on prefix b 0xe8 (exact_far at _ 5 Call refl (λ target code is. is))
     (exact_on prefix b 0xe9 (exact_far at _ 5 Jmp32 refl (λ target code is. is))
     (exact_on prefix b 0xeb (exact_near at _ 2 Jmp8 refl (λ target code is. is))
-    (exact_on prefix b 0xf3 (exact_expect Endbr64 [] at _ _ _ refl (exact_whole at _ Endbr64 4 refl refl))
-    (exact_on prefix b 0xf4 (exact_whole at _ Hlt 1 refl refl)
-    (exact_on prefix b 0xff (exact_step at) (exact_unknown at _)))))))))))))))))))))
+    (exact_on prefix b 0xf3 (exact_expect Endbr64 [] at _ _ _ refl (exact_complete at _ Endbr64 4 refl refl))
+    (exact_on prefix b 0xf4 (exact_complete at _ Hlt 1 refl refl)
+    (exact_on prefix b 0xff (exact_inc_or_dec at) (exact_unknown at _)))))))))))))))))))))
 
 -- the reading of an instruction
 pub exact_read : (at : ℕ) → IsExact at [] (read at)

@@ -77,7 +77,8 @@ stepped rm computed p = record (worked rm computed p) { carry = p.carry }
 abbrev pub is_less : Proc → Bool
 is_less p = if p.overflow then not p.sign else p.sign
 
--- the condition of which the lowest bit of the number is a negation
+-- the condition of an even number, by its half; the lowest bit of the number is a negation. Parity, half 5, is excluded:
+-- no jump asks for it, and what stands here for it means nothing
 abbrev pub is_met : ℕ → Proc → Bool
 is_met half p =
     if half == 0 then p.overflow
@@ -86,7 +87,8 @@ is_met half p =
     else if half == 3 then p.carry || p.zero
     else if half == 4 then p.sign
     else if half == 6 then is_less p
-    else p.zero || is_less p
+    else if half == 7 then p.zero || is_less p
+    else false
 
 abbrev pub holds : ℕ → Proc → Bool
 holds condition p = if condition % 2 == 0 then is_met (condition / 2) p else not (is_met (condition / 2) p)

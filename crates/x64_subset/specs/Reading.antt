@@ -20,8 +20,8 @@ abbrev pub Reading : Type 0
 Reading = List ℕ → Answer
 
 -- the instruction, n bytes long, ends here
-abbrev pub whole : Insn → ℕ → Reading
-whole insn len rest = Ok (insn, len)
+abbrev pub complete : Insn → ℕ → Reading
+complete insn len rest = Ok (insn, len)
 
 -- nothing begins so
 abbrev pub unknown : Reading
@@ -44,26 +44,26 @@ four next = byte (λ a. byte (λ b. byte (λ c. byte (λ d. next (a ∷ b ∷ c 
 
 -- a displacement of one byte and of four, which end an instruction of n bytes
 abbrev pub near : ℕ → ℕ → (ℕ → Insn) → Reading
-near at len insn = byte (λ rel8. whole (insn (leads w8 (after at len) (rel8 ∷ []))) len)
+near at len insn = byte (λ rel8. complete (insn (leads w8 (after at len) (rel8 ∷ []))) len)
 
 abbrev pub far : ℕ → ℕ → (ℕ → Insn) → Reading
-far at len insn = four (λ rel32. whole (insn (leads w32 (after at len) rel32)) len)
+far at len insn = four (λ rel32. complete (insn (leads w32 (after at len) rel32)) len)
 
 -- a byte that names two registers, or a digit and a register
-abbrev pub mod_rm : (ℕ → ℕ → Reading) → Reading
-mod_rm next =
+abbrev pub by_mod_rm : (ℕ → ℕ → Reading) → Reading
+by_mod_rm next =
     byte (λ b. if nat_le 0xc0 b && is_register (b % 8) then next ((b - 0xc0) / 8) (b % 8) else unknown)
 
 -- two registers, of which the destination is the second
 abbrev pub two_registers : AluOp → ℕ → ℕ → Reading
-two_registers op reg rm = if is_register reg then whole (Alu op rm reg) 2 else unknown
+two_registers op reg rm = if is_register reg then complete (Alu op rm reg) 2 else unknown
 
 abbrev pub alu : AluOp → Reading
-alu op = mod_rm (two_registers op)
+alu op = by_mod_rm (two_registers op)
 
 -- a register and a byte, by the operation's digit
 abbrev pub with_byte : AluOp → ℕ → Reading
-with_byte op rm = byte (λ number. whole (AluImm op rm number) 3)
+with_byte op rm = byte (λ number. complete (AluImm op rm number) 3)
 
 abbrev pub by_digit : ℕ → ℕ → Reading
 by_digit digit rm =
@@ -73,21 +73,21 @@ by_digit digit rm =
     else unknown
 
 abbrev pub alu_imm : Reading
-alu_imm = mod_rm by_digit
+alu_imm = by_mod_rm by_digit
 
 -- one register, by the operation's digit
-abbrev pub stepped : ℕ → ℕ → Reading
-stepped digit rm =
-    if digit == 0 then whole (Inc rm) 2
-    else if digit == 1 then whole (Dec rm) 2
+abbrev pub one_register : ℕ → ℕ → Reading
+one_register digit rm =
+    if digit == 0 then complete (Inc rm) 2
+    else if digit == 1 then complete (Dec rm) 2
     else unknown
 
-abbrev pub step : Reading
-step = mod_rm stepped
+abbrev pub inc_or_dec : Reading
+inc_or_dec = by_mod_rm one_register
 
 -- a number of four bytes into a register
 abbrev pub mov_imm : ℕ → Reading
-mov_imm r = if is_register r then four (λ id. whole (MovImm r (from_le_bytes w32 id)) 5) else unknown
+mov_imm r = if is_register r then four (λ id. complete (MovImm r (from_le_bytes w32 id)) 5) else unknown
 
 -- a jump on a condition
 abbrev pub jcc8 : ℕ → ℕ → Reading
@@ -99,32 +99,32 @@ jcc32 at condition = if is_condition condition then far at 6 (Jcc32 condition) e
 -- after 66 0F 1F
 abbrev pub prefixed_nop : ℕ → Reading
 prefixed_nop b =
-    if b == 0x44 then expect (0x00 ∷ 0x00 ∷ []) (whole (Nop 6) 6)
-    else if b == 0x84 then expect (0x00 ∷ 0x00 ∷ 0x00 ∷ 0x00 ∷ 0x00 ∷ []) (whole (Nop 9) 9)
+    if b == 0x44 then expect (0x00 ∷ 0x00 ∷ []) (complete (Nop 6) 6)
+    else if b == 0x84 then expect (0x00 ∷ 0x00 ∷ 0x00 ∷ 0x00 ∷ 0x00 ∷ []) (complete (Nop 9) 9)
     else unknown
 
 -- after 66
 abbrev pub prefixed : ℕ → Reading
 prefixed b =
-    if b == 0x90 then whole (Nop 2) 2
+    if b == 0x90 then complete (Nop 2) 2
     else if b == 0x0f then expect (0x1f ∷ []) (byte prefixed_nop)
     else unknown
 
 -- after 0F 1F
 abbrev pub long_nop : ℕ → Reading
 long_nop b =
-    if b == 0x00 then whole (Nop 3) 3
-    else if b == 0x40 then expect (0x00 ∷ []) (whole (Nop 4) 4)
-    else if b == 0x44 then expect (0x00 ∷ 0x00 ∷ []) (whole (Nop 5) 5)
-    else if b == 0x80 then expect (0x00 ∷ 0x00 ∷ 0x00 ∷ 0x00 ∷ []) (whole (Nop 7) 7)
-    else if b == 0x84 then expect (0x00 ∷ 0x00 ∷ 0x00 ∷ 0x00 ∷ 0x00 ∷ []) (whole (Nop 8) 8)
+    if b == 0x00 then complete (Nop 3) 3
+    else if b == 0x40 then expect (0x00 ∷ []) (complete (Nop 4) 4)
+    else if b == 0x44 then expect (0x00 ∷ 0x00 ∷ []) (complete (Nop 5) 5)
+    else if b == 0x80 then expect (0x00 ∷ 0x00 ∷ 0x00 ∷ 0x00 ∷ []) (complete (Nop 7) 7)
+    else if b == 0x84 then expect (0x00 ∷ 0x00 ∷ 0x00 ∷ 0x00 ∷ 0x00 ∷ []) (complete (Nop 8) 8)
     else unknown
 
 -- after 0F
 abbrev pub escaped : ℕ → ℕ → Reading
 escaped at b =
-    if b == 0x01 then expect (0xe8 ∷ []) (whole Serialize 3)
-    else if b == 0x0b then whole Ud2 2
+    if b == 0x01 then expect (0xe8 ∷ []) (complete Serialize 3)
+    else if b == 0x0b then complete Ud2 2
     else if b == 0x1f then byte long_nop
     else if nat_le 0x80 b && nat_lt b 0x90 then jcc32 at (b - 0x80)
     else unknown
@@ -142,17 +142,17 @@ first at b =
     else if b == 0x83 then alu_imm
     else if b == 0x85 then alu Test
     else if b == 0x89 then alu Mov
-    else if b == 0x90 then whole (Nop 1) 1
+    else if b == 0x90 then complete (Nop 1) 1
     else if nat_le 0xb8 b && nat_lt b 0xc0 then mov_imm (b - 0xb8)
-    else if b == 0xc3 then whole Ret 1
-    else if b == 0xcc then whole Int3 1
-    else if b == 0xe6 then byte (λ port. whole (Out port) 2)
+    else if b == 0xc3 then complete Ret 1
+    else if b == 0xcc then complete Int3 1
+    else if b == 0xe6 then byte (λ port. complete (Out port) 2)
     else if b == 0xe8 then far at 5 Call
     else if b == 0xe9 then far at 5 Jmp32
     else if b == 0xeb then near at 2 Jmp8
-    else if b == 0xf3 then expect (0x0f ∷ 0x1e ∷ 0xfa ∷ []) (whole Endbr64 4)
-    else if b == 0xf4 then whole Hlt 1
-    else if b == 0xff then step
+    else if b == 0xf3 then expect (0x0f ∷ 0x1e ∷ 0xfa ∷ []) (complete Endbr64 4)
+    else if b == 0xf4 then complete Hlt 1
+    else if b == 0xff then inc_or_dec
     else unknown
 
 -- the instruction at an address, of which these are the bytes

@@ -1,18 +1,26 @@
 -- Which instructions there are: their operands' ranges.
-use Rattle.std.specs.Prelude.{◌==◌, ◌&&◌, ℕ, Bool, true, not, nat_lt, nat_le, Option, Some, None}
+use Rattle.std.specs.Prelude.{◌==◌, ◌&&◌, ◌||◌, ℕ, Bool, true, not, nat_lt, nat_le, Option, Some, None}
 use Rattle.std.specs.Option.{is_some}
 use Rattle.x64_subset.specs.declared.insn.AluOp.{AluOp}
 use Rattle.x64_subset.specs.declared.insn.AluOp.TheVariants.{Add, Sub, Xor, Cmp, Test, Mov}
 use Rattle.x64_subset.specs.declared.insn.Insn.{Insn}
 use Rattle.x64_subset.specs.declared.insn.Insn.TheVariants.{Nop, Int3, Jmp8, Jmp32, Call, Ret, Jcc8, Jcc32, Alu, AluImm, Inc, Dec, MovImm, Hlt, Ud2, Out, Endbr64, Serialize}
 
--- a register that an instruction may name: the stack pointer, 4, is no operand
-abbrev pub is_register : ℕ → Bool
-is_register r = nat_lt r 8 && not (r == 4)
+-- the stack pointer ESP, which is excluded: the call stack of the processors stands apart from their data
+abbrev pub is_stack_pointer : ℕ → Bool
+is_stack_pointer r = r == 4
 
--- a condition of a jump: parity, 10 and 11, is none
+-- a register that an instruction may name: one of the eight, but the stack pointer
+abbrev pub is_register : ℕ → Bool
+is_register r = nat_lt r 8 && not (is_stack_pointer r)
+
+-- the conditions of parity, P (A in hexadecimal) and NP (B), which are excluded: the processors have no parity flag
+abbrev pub is_parity : ℕ → Bool
+is_parity condition = condition == 10 || condition == 11
+
+-- a condition that a jump may have: one of the sixteen, but those of parity
 abbrev pub is_condition : ℕ → Bool
-is_condition condition = nat_lt condition 16 && not (condition == 10) && not (condition == 11)
+is_condition condition = nat_lt condition 16 && not (is_parity condition)
 
 -- the digit that stands for an operation with a byte, in the register's place of ModRM
 abbrev pub digit_of : AluOp → Option ℕ

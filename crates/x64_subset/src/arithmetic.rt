@@ -51,10 +51,5 @@ pub fn bits(value: u32) -> Computed
 pub fn extended(byte: u8) -> u32
     ensures { result ≡ extended byte }
 {
-    let number = u32::from(byte);
-    if number < 0x80 {
-        number
-    } else {
-        number + 0xffff_ff00
-    }
+    i32::from(byte.cast_signed()).cast_unsigned()
 }

@@ -1,31 +1,37 @@
 //! The conditions of jumps (Intel SDM volume 2, appendix B.1.4.7).
-ghost use Rattle.std.specs.Prelude.{◌≡◌, true};
+ghost use Rattle.std.specs.Prelude.{◌≡◌, ◌<◌, true};
 ghost use Rattle.x64_subset.specs.Subset.{is_condition};
-ghost use Rattle.x64_subset.specs.Effect.{holds, is_less};
+ghost use Rattle.x64_subset.specs.Effect.{holds, is_met, is_less};
 
 use crate::Proc;
 
 impl Proc {
-    /// Whether a condition holds, which is the low four bits of the opcodes of Jcc.
+    /// Whether a condition holds, which is the low four bits of the opcodes of Jcc. The lowest of them is
+    /// a negation.
     pub(crate) fn holds(&self, condition: u8) -> bool
         requires { is_condition condition ≡ true }
         ensures { result ≡ holds condition self.now }
     {
-        match condition {
-            0x0 => self.overflow,
-            0x1 => !self.overflow,
-            0x2 => self.carry,
-            0x3 => !self.carry,
-            0x4 => self.zero,
-            0x5 => !self.zero,
-            0x6 => self.carry || self.zero,
-            0x7 => !(self.carry || self.zero),
-            0x8 => self.sign,
-            0x9 => !self.sign,
-            0xc => self.is_less(),
-            0xd => !self.is_less(),
-            0xe => self.zero || self.is_less(),
-            _ => !(self.zero || self.is_less()),
+        let is_met = self.is_met(condition / 2);
+        if condition % 2 == 0 { is_met } else { !is_met }
+    }
+
+    /// Whether the condition of an even number holds, by the half of the number. Parity, half 5, is
+    /// excluded.
+    fn is_met(&self, half: u8) -> bool
+        requires below { half < 8 }
+        requires parity { half ≡ 5 → ⊥ }
+        ensures { result ≡ is_met half self.now }
+    {
+        match half {
+            0 => self.overflow,
+            1 => self.carry,
+            2 => self.zero,
+            3 => self.carry || self.zero,
+            4 => self.sign,
+            6 => self.is_less(),
+            7 => self.zero || self.is_less(),
+            _ => unreachable!(),
         }
     }
 

@@ -10,9 +10,10 @@ use crate::{FaultKind, Insn, Life, Mark, Proc};
 /// Does one instruction, which is `len` bytes long, on a processor that is running, and says what that
 /// shows outside.
 ///
-/// The instruction has to be of the subset: its registers are numbers below 8, but not 4, and its
-/// conditions numbers below 16, but not 10 or 11; a byte as operand goes with Add, Sub or Cmp; a NOP
-/// has 1 to 9 bytes. The processor has at most 64 return addresses, before and after.
+/// The instruction has to be of the subset: its registers are among the eight, but the stack pointer,
+/// number 4, is excluded; its conditions are among the sixteen, but those of parity, numbers 10 and 11,
+/// are excluded; a byte as operand goes with Add, Sub or Cmp; a NOP has 1 to 9 bytes. The processor has
+/// at most 64 return addresses, before and after.
 ///
 /// The processor goes on at a jump's target or else after the instruction; addresses wrap modulo
 /// 2^64. It ends where it executes RET with no return address (`Done`), HLT (`Halted`), UD2

@@ -1,4 +1,5 @@
 //! The instructions (Intel SDM volume 2; each in the one spelling that is read here).
+use insn_forms::Form;
 use thiserror::Error;
 
 /// What is done with two registers, or with a register and a number.
@@ -12,8 +13,11 @@ pub enum AluOp {
     Mov,
 }
 
-/// An instruction. A register is a number below 8, but not 4: 0 EAX, 1 ECX, 2 EDX, 3 EBX, 5 EBP, 6 ESI,
-/// 7 EDI. A condition is the low four bits of the opcodes of Jcc, but not 10 or 11. A target is an
+/// An instruction.
+///
+/// A register is its number: 0 EAX, 1 ECX, 2 EDX, 3 EBX, 5 EBP, 6 ESI, 7 EDI. 4, the stack pointer ESP, is
+/// excluded: the call stack stands apart from data. A condition is the low four bits of the opcodes of
+/// Jcc. 0xA and 0xB, those of parity, are excluded: the processors have no parity flag. A target is an
 /// address.
 #[derive(Clone, Copy, Debug, PartialEq, Eq)]
 pub enum Insn {
@@ -53,6 +57,25 @@ pub enum Insn {
     Endbr64,
     /// `0F 01 E8`
     Serialize,
+}
+
+impl From<Form> for Insn {
+    ghost use Rattle.std.specs.Prelude.{◌≡◌};
+    ghost use Rattle.x64_subset.specs.Whole.{insn_of};
+
+    ghost from_gives = { λ form insn. insn ≡ insn_of form };
+
+    /// The instruction that a patched site's form is. Of RET it is that of the first byte.
+    fn from(form: Form) -> Insn {
+        match form {
+            Form::Nop2 => Insn::Nop(2),
+            Form::Nop5 => Insn::Nop(5),
+            Form::Jmp8(target) => Insn::Jmp8(target),
+            Form::Jmp32(target) => Insn::Jmp32(target),
+            Form::Call(target) => Insn::Call(target),
+            Form::Ret => Insn::Ret,
+        }
+    }
 }
 
 /// Why no instruction is read of some bytes.

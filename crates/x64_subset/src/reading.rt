@@ -4,10 +4,18 @@ ghost use Rattle.x64_subset.specs.declared.insn.Insn.{Insn};
 ghost use Rattle.x64_subset.specs.declared.insn.Undecoded.TheVariants.{Short, Unknown};
 ghost use Rattle.x64_subset.specs.Subset.{is_listed, is_register, is_condition};
 ghost use Rattle.x64_subset.specs.Spells.{Stands, IsCut, IsUnknown};
-ghost use Rattle.x64_subset.specs.Reading.{Reading, read, first, escaped, prefixed, prefixed_nop, long_nop, alu, alu_imm, with_byte, step, mov_imm, jcc8, jcc32, near, far, four, byte, expect, whole, mod_rm};
+ghost use Rattle.x64_subset.specs.Reading.{Reading, read, first, escaped, prefixed, prefixed_nop, long_nop, alu, alu_imm, with_byte, inc_or_dec, mov_imm, jcc8, jcc32, near, far, four, byte, expect, complete, by_mod_rm};
 
 use crate::{AluOp, Insn, Undecoded};
 use insn_forms::displacement::{target8, target32};
+
+/// ESP, which no instruction of the subset names.
+const STACK_POINTER: u8 = 4;
+
+/// The conditions of parity, which no jump of the subset has.
+const PARITY: u8 = 0xa;
+
+const NO_PARITY: u8 = 0xb;
 
 /// An instruction and its length, or why there is none.
 type Decoded = Result<(Insn, u8), Undecoded>;
@@ -57,7 +65,7 @@ fn by_opcode(at: u64, opcode: u8, rest: &[u8]) -> Decoded
         0xeb => Ok((Insn::Jmp8(near_target(at, rest)?), 2)),
         0xf3 => expect(&[0x0f, 0x1e, 0xfa], rest, Insn::Endbr64, 4),
         0xf4 => Ok((Insn::Hlt, 1)),
-        0xff => step(rest),
+        0xff => inc_or_dec(rest),
         _ => Err(Undecoded::Unknown),
     }
 }
@@ -123,7 +131,7 @@ fn long_nop(rest: &[u8]) -> Decoded
 fn alu(op: AluOp, rest: &[u8]) -> Decoded
     ensures { result ≡ alu op rest.now }
 {
-    let (reg, rm, _) = mod_rm(rest)?;
+    let (reg, rm, _) = operands(rest)?;
     if is_register(reg) {
         Ok((Insn::Alu(op, rm, reg), 2))
     } else {
@@ -135,7 +143,7 @@ fn alu(op: AluOp, rest: &[u8]) -> Decoded
 fn alu_imm(rest: &[u8]) -> Decoded
     ensures { result ≡ alu_imm rest.now }
 {
-    let (digit, rm, rest) = mod_rm(rest)?;
+    let (digit, rm, rest) = operands(rest)?;
     match digit {
         0 => with_byte(AluOp::Add, rm, rest),
         5 => with_byte(AluOp::Sub, rm, rest),
@@ -153,10 +161,10 @@ fn with_byte(op: AluOp, rm: u8, rest: &[u8]) -> Decoded
 }
 
 /// One more or one less.
-fn step(rest: &[u8]) -> Decoded
-    ensures { result ≡ step rest.now }
+fn inc_or_dec(rest: &[u8]) -> Decoded
+    ensures { result ≡ inc_or_dec rest.now }
 {
-    let (digit, rm, _) = mod_rm(rest)?;
+    let (digit, rm, _) = operands(rest)?;
     match digit {
         0 => Ok((Insn::Inc(rm), 2)),
         1 => Ok((Insn::Dec(rm), 2)),
@@ -178,7 +186,7 @@ fn mov_imm(r: u8, rest: &[u8]) -> Decoded
 
 /// A byte to a port.
 fn out(rest: &[u8]) -> Decoded
-    ensures { result ≡ byte (λ port. whole (Insn.Out port) 2) rest.now }
+    ensures { result ≡ byte (λ port. complete (Insn.Out port) 2) rest.now }
 {
     let (port, _) = next_byte(rest)?;
     Ok((Insn::Out(port), 2))
@@ -225,9 +233,9 @@ fn far_target(at: u64, len: u8, rest: &[u8]) -> Result<u64, Undecoded>
 }
 
 /// A digit or a register, a register, and the bytes after the ModRM byte that names them.
-fn mod_rm(rest: &[u8]) -> Result<(u8, u8, &[u8]), Undecoded>
-    ensures { MatchResult result (λ found. (next : ℕ → ℕ → Reading) → mod_rm next rest.now ≡ next found.0 found.1 found.2.now)
-        (λ fail. (next : ℕ → ℕ → Reading) → mod_rm next rest.now ≡ Err fail) }
+fn operands(rest: &[u8]) -> Result<(u8, u8, &[u8]), Undecoded>
+    ensures { MatchResult result (λ found. (next : ℕ → ℕ → Reading) → by_mod_rm next rest.now ≡ next found.0 found.1 found.2.now)
+        (λ fail. (next : ℕ → ℕ → Reading) → by_mod_rm next rest.now ≡ Err fail) }
 {
     let (byte, rest) = next_byte(rest)?;
     let rm = byte % 8;
@@ -240,7 +248,7 @@ fn mod_rm(rest: &[u8]) -> Result<(u8, u8, &[u8]), Undecoded>
 
 /// The instruction, if these bytes follow.
 fn expect(code: &[u8], rest: &[u8], insn: Insn, len: u8) -> Decoded
-    ensures { result ≡ expect code.now (whole insn len) rest.now }
+    ensures { result ≡ expect code.now (complete insn len) rest.now }
 {
     if rest.starts_with(code) {
         Ok((insn, len))
@@ -263,25 +271,25 @@ fn next_byte(rest: &[u8]) -> Result<(u8, &[u8]), Undecoded>
 
 /// Four bytes.
 fn four_bytes(rest: &[u8]) -> Result<[u8; 4], Undecoded>
-    ensures { MatchResult result (λ bytes. (insn : List ℕ → Insn) (len : ℕ) → four (λ id. whole (insn id) len) rest.now ≡ Ok (insn bytes, len))
-        (λ fail. (insn : List ℕ → Insn) (len : ℕ) → four (λ id. whole (insn id) len) rest.now ≡ Err fail) }
+    ensures { MatchResult result (λ bytes. (insn : List ℕ → Insn) (len : ℕ) → four (λ id. complete (insn id) len) rest.now ≡ Ok (insn bytes, len))
+        (λ fail. (insn : List ℕ → Insn) (len : ℕ) → four (λ id. complete (insn id) len) rest.now ≡ Err fail) }
 {
-    match rest.get(..4) {
-        Some(bytes) => bytes.try_into().or(Err(Undecoded::Short)),
+    match rest.first_chunk() {
+        Some(bytes) => Ok(*bytes),
         None => Err(Undecoded::Short),
     }
 }
 
-/// Whether an instruction may name the register.
+/// Whether an instruction may name the register: any but the stack pointer.
 fn is_register(r: u8) -> bool
     ensures { result ≡ is_register r }
 {
-    r < 8 && r != 4
+    r < 8 && r != STACK_POINTER
 }
 
-/// Whether the condition is one of a jump.
+/// Whether the condition is one of a jump: any but those of parity.
 fn is_condition(condition: u8) -> bool
     ensures { result ≡ is_condition condition }
 {
-    condition < 16 && condition != 10 && condition != 11
+    condition < 16 && condition != PARITY && condition != NO_PARITY
 }

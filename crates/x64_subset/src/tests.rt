@@ -1,5 +1,6 @@
 //! Instructions by their bytes, from the opcode pages of the Intel SDM, volume 2.
 use crate::{AluOp, Insn, Undecoded, decode};
+use insn_forms::Form;
 use std::process::Abort;
 use std::test::Fail;
 
@@ -106,6 +107,24 @@ fn reads_nops(rt: HostRuntime) -> Result<(), Fail> {
     ];
     for (len, bytes) in rows {
         reads(&rt, 0x401000, bytes, Insn::Nop(len))?;
+    }
+    Ok(())
+}
+
+#[test]
+fn reads_forms(rt: HostRuntime) -> Result<(), Fail> {
+    let forms = [
+        Form::Nop2,
+        Form::Nop5,
+        Form::Jmp8(0x401010),
+        Form::Jmp32(0x402000),
+        Form::Call(0x402000),
+        Form::Ret,
+    ];
+    for form in forms {
+        let code = form.encode(0x401000)?;
+        let (insn, _) = decode(0x401000, &code)?;
+        assert_eq!(rt; insn, Insn::from(form));
     }
     Ok(())
 }

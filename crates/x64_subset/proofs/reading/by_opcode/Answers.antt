@@ -37,7 +37,7 @@ pub returns-in-230 : goal.returns-in-230
 returns-in-230 c = where_is (first c.args.at) _ 0xe6 _ _ c.in-230.is c.out.ensures
 
 pub returns-in-255 : goal.returns-in-255
-returns-in-255 c = where_is (first c.args.at) _ 0xff _ _ c.in-255.is c.step.ensures
+returns-in-255 c = where_is (first c.args.at) _ 0xff _ _ c.in-255.is c.inc_or_dec.ensures
 
 pub returns-in_ok-far_target-in-232 : goal.returns-in_ok-far_target-in-232
 returns-in_ok-far_target-in-232 c =

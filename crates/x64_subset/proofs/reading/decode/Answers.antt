@@ -15,8 +15,8 @@ returns-in_err-opcode c =
     record {
       reads = same;
       stands = answer_stands _ _ _ fit same;
-      listed = answer_listed _ _ _ fit same;
-      length = answer_length _ _ _ fit same;
+      listed = answer_listed c.args.at c.args.bytes.now _ same;
+      length = answer_length c.args.at c.args.bytes.now _ same;
       short = answer_short _ _ _ fit same;
       unknown = answer_unknown _ _ _ fit same;
     }
@@ -29,8 +29,8 @@ returns c =
     record {
       reads = same;
       stands = answer_stands _ _ _ fit same;
-      listed = answer_listed _ _ _ fit same;
-      length = answer_length _ _ _ fit same;
+      listed = answer_listed c.args.at c.args.bytes.now _ same;
+      length = answer_length c.args.at c.args.bytes.now _ same;
       short = answer_short _ _ _ fit same;
       unknown = answer_unknown _ _ _ fit same;
     }

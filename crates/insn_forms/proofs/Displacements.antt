@@ -1,9 +1,11 @@
 -- Displacements: the bytes that lead to a target, both ways.
-use Rattle.std.proofs.Common.{◌≡◌, ℕ, ◌+◌, ◌/◌, ◌%◌, ◌^◌, ◌<◌, ◌==◌, Bool, true, false, cond, if◌then◌else◌, List, [], ◌∷◌, refl, sym, ◌∙◌, ap, Some, None, arith}
-use Rattle.std.specs.Int.{Width, w8, w32, to_le_bytes, from_le_bytes}
+use Rattle.std.proofs.Common.{◌≡◌, ◌↔◌, ℕ, ◌+◌, ◌/◌, ◌%◌, ◌^◌, ◌<◌, ◌==◌, Bool, true, false, cond, if◌then◌else◌, List, [], ◌∷◌, length, refl, sym, ◌∙◌, ap, subst, Some, None, arith}
+use Rattle.std.specs.Int.{Width, w8, w32, byte_len, to_le_bytes, from_le_bytes}
+use Rattle.std.specs.List.{All}
 use Rattle.std.proofs.lemmas.Bool.Decides.{Decides-eqb, nat_tests}
+use Rattle.std.proofs.lemmas.List.Elements.{All-head, All-tail}
 use Rattle.std.proofs.lemmas.Option.{same_Some, none-some}
-use Rattle.insn_forms.specs.Displacement.{leads, distance, displacement, sign_extended}
+use Rattle.insn_forms.specs.Displacement.{leads, distance, displacement, sign_extended, LeadsTo, NoneLeads}
 use Rattle.insn_forms.specs.Spelling.{after}
 
 -- a value that is kept by a test
@@ -64,3 +66,45 @@ displacement32 from a b c d below p q r s =
 -- an address after some bytes
 pub after-below : (at n : ℕ) → after at n < 2 ^ 64
 after-below at n = omega arith
+
+-- a number is a byte
+abbrev IsByte : ℕ → Type 0
+IsByte byte = byte < 256
+
+-- bytes of a width are the displacement to where they lead
+abbrev LeadBack : Width → ℕ → Type 0
+LeadBack w from = (rel : List ℕ) → length rel ≡ byte_len w → All IsByte rel → displacement w from (leads w from rel) ≡ Some rel
+
+back_8 : (from : ℕ) → from < 2 ^ 64 → LeadBack w8 from
+back_8 from below [] size bytes = absurd (omega arith)
+back_8 from below (a ∷ []) size bytes = displacement8 from a below (All-head IsByte a [] bytes)
+back_8 from below (a ∷ b ∷ rel) size bytes = absurd (omega arith)
+
+back_32 : (from : ℕ) → from < 2 ^ 64 → LeadBack w32 from
+back_32 from below [] size bytes = absurd (omega arith)
+back_32 from below (a ∷ []) size bytes = absurd (omega arith)
+back_32 from below (a ∷ b ∷ []) size bytes = absurd (omega arith)
+back_32 from below (a ∷ b ∷ c ∷ []) size bytes = absurd (omega arith)
+back_32 from below (a ∷ b ∷ c ∷ d ∷ []) size bytes =
+    let second = All-tail IsByte a (b ∷ c ∷ d ∷ []) bytes in
+    let third = All-tail IsByte b (c ∷ d ∷ []) second in
+    let fourth = All-tail IsByte c (d ∷ []) third in
+    displacement32 from a b c d below (All-head IsByte a (b ∷ c ∷ d ∷ []) bytes)
+    (All-head IsByte b (c ∷ d ∷ []) second) (All-head IsByte c (d ∷ []) third) (All-head IsByte d [] fourth)
+back_32 from below (a ∷ b ∷ c ∷ d ∷ e ∷ rel) size bytes = absurd (omega arith)
+
+-- where bytes of a width are the displacement to where they lead, and there is no displacement, none leads there
+none_leads : (w : Width) (from to : ℕ) → LeadBack w from → displacement w from to ≡ None → NoneLeads w from to
+none_leads w from to back none rel r =
+    none-some _ (sym none ∙ subst (λ (t : ℕ). displacement w from t ≡ Some rel) r.target (back rel r.size r.bytes))
+
+pub none_leads8 : (from to : ℕ) → from < 2 ^ 64 → displacement w8 from to ≡ None → NoneLeads w8 from to
+none_leads8 from to below none = none_leads w8 from to (back_8 from below) none
+
+pub none_leads32 : (from to : ℕ) → from < 2 ^ 64 → displacement w32 from to ≡ None → NoneLeads w32 from to
+none_leads32 from to below none = none_leads w32 from to (back_32 from below) none
+
+-- an answer that there is none is wrong where one leads to the target
+pub some_none : (w : Width) (from to : ℕ) (rel : List ℕ) → LeadsTo w from to rel → (Some rel ≡ None) ↔ NoneLeads w from to
+some_none w from to rel leads_to =
+    (λ none. absurd (none-some _ (sym none)), λ none. absurd (none rel leads_to))
