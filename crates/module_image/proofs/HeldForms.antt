@@ -12,7 +12,7 @@ use Rattle.module_image.specs.Entries.{base, entries, file_text}
 use Rattle.module_image.specs.Held.{ForeignSitesHoldNoForm}
 use Rattle.module_image.specs.Keys.{key_addresses, keys}
 use Rattle.module_image.specs.Module.{IsModule, Module, States, tracer_of, wants}
-use Rattle.module_image.specs.Refusals.{Passes}
+use Rattle.module_image.specs.Refusals.{Passes, past_all, past_site_overlap}
 use Rattle.module_image.specs.Sites.{code_at, is_early, is_foreign, site_of, sites, starts_of, text}
 use Rattle.module_image.specs.Text.{AreApart}
 use Rattle.module_image.specs.Wants.{state_of, wanted}
@@ -57,7 +57,7 @@ foreign_off ss i s apart get foreign j u here own = elim (cases_lt i j) [
 ]
 
 -- early writing leaves the bytes of a foreign site
-pub foreign_kept : (elf : Elf) (i : ℕ) (s : Site) → Passes elf 8 → slice_get (sites elf) i ≡ Some s → s.foreign ≡ true → code_at (base elf) (text elf) s.at s.len ≡ code_at (base elf) (file_text elf) s.at s.len
+pub foreign_kept : (elf : Elf) (i : ℕ) (s : Site) → Passes elf past_site_overlap → slice_get (sites elf) i ≡ Some s → s.foreign ≡ true → code_at (base elf) (text elf) s.at s.len ≡ code_at (base elf) (file_text elf) s.at s.len
 foreign_kept elf i s passes get foreign =
     sites_kept (base elf) (length (file_text elf)) (starts_of (keys elf)) (sites elf) (file_text elf) s.at s.len refl (inside_passed elf passes)
     (call_lens_passed elf) (inside_passed elf passes i s get).from
@@ -68,7 +68,7 @@ pub foreign_hold : ForeignSitesHoldNoForm
 foreign_hold m states i s form accepted get foreign want spelt =
     let elf = accepted.elf in
     let is = accepted.is in
-    let passes : Passes elf 8 = passes_before elf 8 15 (omega arith) is.passes in
+    let passes : Passes elf past_site_overlap = passes_before elf past_site_overlap past_all (omega arith) is.passes in
     let there : slice_get (sites elf) i ≡ Some s = site_of_file elf m i s is get in
     let code = code_of_file elf m s is ∙ foreign_kept elf i s passes there foreign in
     let early : is_early s.at s.len s.kind (code_at (base elf) (file_text elf) s.at s.len) ≡ true =

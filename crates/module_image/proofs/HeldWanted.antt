@@ -14,7 +14,7 @@ use Rattle.module_image.specs.Entries.{base, file_text}
 use Rattle.module_image.specs.Held.{SitesHoldWhatTheyWant, first_states}
 use Rattle.module_image.specs.Keys.{keys}
 use Rattle.module_image.specs.Module.{IsModule, Module, tracer_of, wants}
-use Rattle.module_image.specs.Refusals.{Passes}
+use Rattle.module_image.specs.Refusals.{Passes, past_all, past_site_overlap}
 use Rattle.module_image.specs.Sites.{early_form, sites, starts_of}
 use Rattle.module_image.specs.Wants.{state_of, wanted}
 use Rattle.module_image.proofs.HeldForms.{code_of_file, site_of_file, want_of}
@@ -47,7 +47,7 @@ pub wanted_held : SitesHoldWhatTheyWant
 wanted_held m i s form accepted get own want =
     let elf = accepted.elf in
     let is = accepted.is in
-    let passes : Passes elf 8 = passes_before elf 8 15 (omega arith) is.passes in
+    let passes : Passes elf past_site_overlap = passes_before elf past_site_overlap past_all (omega arith) is.passes in
     let reached = forms_reach m (first_states m) i s form accepted (first_lead m accepted) get own want in
     let early : spell (early_form (starts_of (keys elf)) s) s.at ≡ Some reached.0 = ap (λ (f : Form). spell f s.at) (sym (first_want elf m i s form is get want)) ∙ reached.1 in
     let held =

@@ -8,7 +8,7 @@ use Rattle.module_image.specs.declared.entry.EntryKind.TheVariants.{Jump as Jump
 use Rattle.module_image.specs.declared.key.KeyClass.TheVariants.{Jump as JumpKey, Call as CallKey}
 use Rattle.module_image.specs.Entries.{entries}
 use Rattle.module_image.specs.Keys.{gathered, key_addresses, key_in, key_of, keys, with_named}
-use Rattle.module_image.specs.Refusals.{Passes}
+use Rattle.module_image.specs.Refusals.{Passes, past_site_count}
 use Rattle.module_image.proofs.Passed.{few_entries}
 use Rattle.module_image.proofs.Rising.{length-with_key}
 
@@ -26,7 +26,7 @@ few_gathered (e ∷ es) js cs =
     let rest = few_gathered es (with_named (key_in JumpKey e.kind) js) (with_named (key_in CallKey e.kind) cs) in
     omega (arith, first, rest)
 
-pub few_keys : (elf : Elf) → Passes elf 5 → length (keys elf) ≤ 1024
+pub few_keys : (elf : Elf) → Passes elf past_site_count → length (keys elf) ≤ 1024
 few_keys elf passes =
     let none : List ℕ = [] in
     let jumps = map (key_of elf.sections JumpKey) (key_addresses elf JumpKey) in

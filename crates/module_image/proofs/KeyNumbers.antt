@@ -135,6 +135,3 @@ call_site_key elf m i s k is here kind = subst (IsKeyed m.keys) kind (site_keyed
 
 pub tail_site_key : (elf : Elf) (m : Module) (i : ℕ) (s : Site) (k : ℕ) → IsModule elf m → slice_get m.sites i ≡ Some s → s.kind ≡ Tail k → IsKeyOf m.keys CallKey k
 tail_site_key elf m i s k is here kind = subst (IsKeyed m.keys) kind (site_keyed elf m i s is here)
-
-pub jump_site_key : (elf : Elf) (m : Module) (i : ℕ) (s : Site) (target k : ℕ) (likely : Bool) → IsModule elf m → slice_get m.sites i ≡ Some s → s.kind ≡ Jump target k likely → IsKeyOf m.keys JumpKey k
-jump_site_key elf m i s target k likely is here kind = subst (IsKeyed m.keys) kind (site_keyed elf m i s is here)

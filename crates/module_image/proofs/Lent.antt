@@ -7,8 +7,7 @@ use Rattle.std.proofs.lemmas.Option.{slice_get_within}
 use Rattle.elf_module.specs.Elf.{Elf}
 use Rattle.x64_subset.specs.declared.insn.Insn.{Insn}
 use Rattle.x64_subset.specs.Reading.{read}
-use Rattle.x64_subset.proofs.Answered.{answer_length, answer_listed, bytes_all}
-use Rattle.x64_subset.proofs.Exact.{AreBytes}
+use Rattle.x64_subset.proofs.WhatIsRead.{what_is_read}
 use Rattle.module_image.specs.declared.image.Image.TheInside.{Inside}
 use Rattle.module_image.specs.declared.site.Site.{Site}
 use Rattle.module_image.specs.declared.site.SiteKind.{SiteKind}
@@ -23,7 +22,7 @@ use Rattle.module_image.specs.Lent.{IsInsnAt, IsPatchedSite, IsPlaceOf, IsTraceS
 use Rattle.module_image.specs.Module.{IsModule, Module, first_of, is_trace, is_trace_at, layout_of, plain_at, plain_of, trace_at, tracer_of}
 use Rattle.module_image.specs.Names.{tracer_name, value_of}
 use Rattle.module_image.specs.Numbers.{AreNumbers}
-use Rattle.module_image.specs.Refusals.{IsTrace}
+use Rattle.module_image.specs.Refusals.{IsTrace, past_all, past_site_count, past_site_overlap, past_tracer_missing}
 use Rattle.module_image.specs.Sites.{sites}
 use Rattle.module_image.specs.Sweeping.{AreMarks}
 use Rattle.module_image.proofs.Grounds.{module_ground}
@@ -43,7 +42,7 @@ use Rattle.module_image.proofs.UnitLaws.{site_is, unit_plain, unit_site}
 no_trace : (elf : Elf) (m : Module) → IsModule elf m → tracer_of m ≡ None → HasNone IsTrace m.sites
 no_trace elf m is missing =
     subst (HasNone IsTrace) (sym is.has_sites)
-    (none_traced elf (passes_before elf 12 15 (omega arith) is.passes) (sym (is.named_functions tracer_name) ∙ missing))
+    (none_traced elf (passes_before elf past_tracer_missing past_all (omega arith) is.passes) (sym (is.named_functions tracer_name) ∙ missing))
 
 -- what holds of a module holds of what an accepted one keeps
 pub sound_of : (i : Inside) (elf : Elf) → IsModule elf (module_of i) → AreMarks (layout_of (module_of i)) i.marks.items → AreNumbers i.jump_keys → AreNumbers i.call_keys → IsSound i
@@ -58,10 +57,10 @@ sound_of i elf is marks jumps calls =
       inside = ground.inside;
       apart = ground.apart;
       marks = marks;
-      few = subst (λ (ss : List Site). length ss ≤ 1024) (sym is.has_sites) (few_passed elf (passes_before elf 8 15 (omega arith) is.passes));
-      few_keys = subst (λ ks. length ks ≤ 1024) (sym is.has_keys) (few_keys elf (passes_before elf 5 15 (omega arith) is.passes));
+      few = subst (λ (ss : List Site). length ss ≤ 1024) (sym is.has_sites) (few_passed elf (passes_before elf past_site_overlap past_all (omega arith) is.passes));
+      few_keys = subst (λ ks. length ks ≤ 1024) (sym is.has_keys) (few_keys elf (passes_before elf past_site_count past_all (omega arith) is.passes));
       known = λ k s here. site_keyed elf m k s is here;
-      tracer = no_trace elf m is;
+      no_tracer = no_trace elf m is;
       jump_names = jump_names_known elf m is;
       call_names = call_names_known elf m is;
       jump_numbers = jumps;
@@ -105,12 +104,6 @@ pub tracer_place : (elf : Elf) (m : Module) (o : Option ℕ) → IsModule elf m 
 tracer_place elf m None is told = no_trace elf m is (sym told)
 tracer_place elf m (Some at) is told = place_of elf m tracer_name (Some at) is told
 
--- the bytes from an offset on
-bytes_drop : (n : ℕ) (bytes : List ℕ) → AreBytes bytes → AreBytes (drop n bytes)
-bytes_drop zero bytes all = all
-bytes_drop (suc n) [] all = all
-bytes_drop (suc n) (b ∷ bytes) all = bytes_drop n bytes all.1
-
 -- a plain instruction is of the subset, and in the text
 pub insn_of : (elf : Elf) (m : Module) (at : ℕ) (o : Option (Insn × ℕ)) → IsModule elf m → o ≡ plain_at m at → IfSome o (IsInsnAt m at)
 insn_of elf m at None is told = tt
@@ -119,12 +112,11 @@ insn_of elf m at (Some (insn, len)) is told =
     let swept = (module_ground elf m is).swept in
     let there = plain_past t m.units at (nat_lt at m.base) insn len swept refl (sym told) in
     let unit = unit_plain t at insn len there.1 in
-    let bytes : AreBytes (drop (at - m.base) m.text) = bytes_drop (at - m.base) m.text (bytes_all m.text is.bytes) in
-    let lengths = answer_length at (drop (at - m.base) m.text) (Ok (insn, len)) bytes (sym unit.reads) in
+    let found = what_is_read at (drop (at - m.base) m.text) insn len unit.reads in
     record {
-      listed = answer_listed at (drop (at - m.base) m.text) (Ok (insn, len)) bytes (sym unit.reads);
-      some = lengths.0;
-      few = lengths.1;
+      listed = found.0;
+      some = found.1;
+      few = found.2;
       from = (noted_unit t m.units at swept there.0).0;
       to = unit.inside;
     }

@@ -6,7 +6,6 @@ pub mod Named
 pub mod Rising
 pub mod SymbolNames
 pub mod Ascending
-pub mod ReadWithin
 pub mod SiteLaws
 pub mod WantedForms
 pub mod Positions
@@ -17,7 +16,6 @@ pub mod Starts
 pub mod Leading
 pub mod Endings
 pub mod UnitLaws
-pub mod SweptOnce
 pub mod Joined
 pub mod Sound
 pub mod KeyNumbers

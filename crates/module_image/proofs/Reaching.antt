@@ -18,7 +18,7 @@ use Rattle.module_image.specs.Held.{WantedFormsReach}
 use Rattle.module_image.specs.Layout.{IsStart, IsSwept, Layout, text_end}
 use Rattle.module_image.specs.Module.{IsModule, Module, States, layout_of, tracer_of}
 use Rattle.module_image.specs.Names.{functions, tracer, tracer_name}
-use Rattle.module_image.specs.Refusals.{IsTooFar}
+use Rattle.module_image.specs.Refusals.{IsTooFar, past_all, past_no_reach, past_tracer_missing}
 use Rattle.module_image.specs.Sites.{sites}
 use Rattle.module_image.specs.Wants.{jump_of, nop_of, state_of, traced, wanted}
 use Rattle.module_image.proofs.Distances.{near_displaced}
@@ -97,7 +97,7 @@ jump_of_reaches t units at len target swept place near start (inr five) =
     (jump_far_reaches t units at target swept (subst (λ (n : ℕ). IsPlace t at n) five place) start)
 
 -- where a site's jump, its key's function or the tracer leads
-abbrev LeadsTo : Layout → ℕ → ℕ → SiteKind → Type 0
+abbrev pub LeadsTo : Layout → ℕ → ℕ → SiteKind → Type 0
 LeadsTo t tracer state (Jump target key likely) = IsStart t target
 LeadsTo t tracer state (Call key) = (state ≡ 0) ⊎ IsStart t state
 LeadsTo t tracer state (Tail key) = (state ≡ 0) ⊎ IsStart t state
@@ -140,12 +140,12 @@ module_place elf m i s is below get =
 -- the tracer is a start where sites are traced
 tracer_leads : (elf : Elf) (m : Module) (i : ℕ) (s : Site) → IsModule elf m → slice_get m.sites i ≡ Some s → s.kind ≡ Trace → (o : Option ℕ) → tracer_of m ≡ o → IsStart (layout_of m) (unwrap_or o 0)
 tracer_leads elf m i s is get kind None told =
-    absurd (none_traced elf (passes_before elf 12 15 (omega arith) is.passes) (sym (is.named_functions tracer_name) ∙ told) i s (site_of_file elf m i s is get) kind)
+    absurd (none_traced elf (passes_before elf past_tracer_missing past_all (omega arith) is.passes) (sym (is.named_functions tracer_name) ∙ told) i s (site_of_file elf m i s is get) kind)
 tracer_leads elf m i s is get kind (Some at) told =
     function_reaches (layout_of m) (functions elf) tracer_name at (module_leads elf m is).of_functions (sym (is.named_functions tracer_name) ∙ told)
 
 -- where a module's site leads
-module_leads_to : (elf : Elf) (m : Module) (states : States) (i : ℕ) (s : Site) (kind : SiteKind) → IsModule elf m → LeadWell m states → slice_get m.sites i ≡ Some s → s.kind ≡ kind → LeadsTo (layout_of m) (unwrap_or (tracer_of m) 0) (state_of states.keys kind) kind
+pub module_leads_to : (elf : Elf) (m : Module) (states : States) (i : ℕ) (s : Site) (kind : SiteKind) → IsModule elf m → LeadWell m states → slice_get m.sites i ≡ Some s → s.kind ≡ kind → LeadsTo (layout_of m) (unwrap_or (tracer_of m) 0) (state_of states.keys kind) kind
 module_leads_to elf m states i s (Jump target key likely) is lead get kind =
     jump_reaches (layout_of m) (sites elf) i s target key likely (module_leads elf m is).of_jumps (site_of_file elf m i s is get) kind
 module_leads_to elf m states i s (Call key) is lead get kind =
@@ -165,7 +165,7 @@ forms_reach m states i s form accepted lead get own want =
     let same = want_of m states i s form get want in
     let reached =
     wanted_reaches (layout_of m) m.units (unwrap_or (tracer_of m) 0) (state_of states.keys s.kind) (slice_index_or states.traced i false) s.at s.len s.kind
-    (module_ground elf m is).swept place five (none_too_far elf (passes_before elf 11 15 (omega arith) is.passes) i s there)
+    (module_ground elf m is).swept place five (none_too_far elf (passes_before elf past_no_reach past_all (omega arith) is.passes) i s there)
     (module_leads_to elf m states i s s.kind is lead get refl) in
     let spelt = ap (λ (f : Form). spell f s.at) (sym same) ∙ reached.1 in
     let long = size_wanted (unwrap_or (tracer_of m) 0) (state_of states.keys s.kind) (slice_index_or states.traced i false) s.len s.kind place.two_or_five five in

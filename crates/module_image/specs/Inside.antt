@@ -34,7 +34,7 @@ pub record IsSound (i : Inside) : Type 0 where
   pub few : length i.sites.items ≤ 1024
   pub few_keys : length i.keys.items ≤ 1024
   pub known : KeysAreKnown i.sites.items i.keys.items
-  pub tracer : tracer_of (module_of i) ≡ None → HasNone IsTrace i.sites.items
+  pub no_tracer : tracer_of (module_of i) ≡ None → HasNone IsTrace i.sites.items
   pub jump_names : NamesAreKnown i.keys.items JumpKey i.jump_keys
   pub call_names : NamesAreKnown i.keys.items CallKey i.call_keys
   pub jump_numbers : AreNumbers i.jump_keys

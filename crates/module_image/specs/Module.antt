@@ -19,7 +19,7 @@ use Rattle.module_image.specs.Names.{Named, value_of, functions, key_names, trac
 use Rattle.module_image.specs.Sites.{sites, text}
 use Rattle.module_image.specs.Layout.{Layout, laid, layout, IsSwept}
 use Rattle.module_image.specs.Aims.{AllLead, jump_aims, key_aims}
-use Rattle.module_image.specs.Refusals.{Passes, function_aims}
+use Rattle.module_image.specs.Refusals.{Passes, function_aims, past_all}
 use Rattle.module_image.specs.Wants.{state_of, wanted}
 
 -- the text after early writing with what begins at each of its addresses, the sites and keys, and what the names of
@@ -95,7 +95,7 @@ SameNames kept ns = (name : List ℕ) → value_of name kept ≡ value_of name n
 
 -- no condition of a refusal holds of the file, and this is its module
 pub record IsModule (elf : Elf) (m : Module) : Type 0 where
-  pub passes : Passes elf 15
+  pub passes : Passes elf past_all
   pub has_base : m.base ≡ base elf
   -- no address of the text, and none after it, wraps
   pub below : m.base + length m.text < 2 ^ 64
