@@ -1,5 +1,5 @@
 -- What a site wants is one of its early forms, whatever its key holds.
-use Rattle.std.proofs.Common.{◌≡◌, ◌∙◌, ◌==◌, ◌||◌, ℕ, Bool, true, false, cond, not, nat_lt, List, Option, Some, refl, ap, slice_index}
+use Rattle.std.proofs.Common.{◌≡◌, ◌∙◌, ◌==◌, ◌||◌, ℕ, Bool, true, false, cond, not, nat_lt, List, Option, Some, refl, ap}
 use Rattle.std.specs.Int.{w32}
 use Rattle.std.proofs.lemmas.Bool.{or_left, or_right}
 use Rattle.std.proofs.lemmas.Slice.Eq.{bytes_eq-Decides}
@@ -42,9 +42,9 @@ traced_early true at tracer code spelt = or_right _ _ (call_opens tracer at code
 traced_early false at tracer code spelt = or_left _ _ (spelt_holds Nop5 at code spelt)
 
 -- the spelling of what a site wants is one of its early forms
-pub wanted_early : (tracer : ℕ) (states : List ℕ) (on : Bool) (at len : ℕ) (kind : SiteKind) (code : List ℕ) → spell (wanted tracer states on len kind) at ≡ Some code → is_early at len kind code ≡ true
-wanted_early tracer states on at len (Jump target key likely) code spelt =
-    switched_early (cond likely (not (nat_lt 0 (slice_index states key))) (nat_lt 0 (slice_index states key))) at len target code spelt
-wanted_early tracer states on at len (Call key) code spelt = called_early (slice_index states key == 0) at (slice_index states key) code spelt
-wanted_early tracer states on at len (Tail key) code spelt = tail_early (slice_index states key == 0) at (slice_index states key) code spelt
-wanted_early tracer states on at len Trace code spelt = traced_early on at tracer code spelt
+pub wanted_early : (tracer state : ℕ) (on : Bool) (at len : ℕ) (kind : SiteKind) (code : List ℕ) → spell (wanted tracer state on len kind) at ≡ Some code → is_early at len kind code ≡ true
+wanted_early tracer state on at len (Jump target key likely) code spelt =
+    switched_early (cond likely (not (nat_lt 0 state)) (nat_lt 0 state)) at len target code spelt
+wanted_early tracer state on at len (Call key) code spelt = called_early (state == 0) at state code spelt
+wanted_early tracer state on at len (Tail key) code spelt = tail_early (state == 0) at state code spelt
+wanted_early tracer state on at len Trace code spelt = traced_early on at tracer code spelt

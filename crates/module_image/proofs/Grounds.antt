@@ -15,7 +15,7 @@ use Rattle.module_image.specs.Layout.{Layout, IsFalling, IsStart, IsSwept, is_ta
 use Rattle.module_image.specs.Layout.IsStart.{the_end}
 use Rattle.module_image.specs.Module.{Module, IsModule, layout_of}
 use Rattle.module_image.specs.Names.{functions}
-use Rattle.module_image.specs.Refusals.{function_aims}
+use Rattle.module_image.specs.Refusals.{function_aims, past_all, past_site_overlap}
 use Rattle.module_image.specs.Sites.{sites, text}
 use Rattle.module_image.specs.Text.{AreApart, AreInside}
 use Rattle.module_image.proofs.SiteLaws.{sites_apart_passed}
@@ -39,7 +39,7 @@ same_layout elf m is =
 
 file_ground : (elf : Elf) (m : Module) → IsModule elf m → IsGround (layout elf) m.units
 file_ground elf m is =
-    let early = passes_before elf 8 15 (omega arith) is.passes in
+    let early = passes_before elf past_site_overlap past_all (omega arith) is.passes in
     record {
       swept = is.swept;
       ends = λ at falling. is.passes.none (EndFalls at) (omega arith) falling;

@@ -12,10 +12,10 @@ use Rattle.module_image.specs.Entries.{base, entries, file_text}
 use Rattle.module_image.specs.Held.{ForeignSitesHoldNoForm}
 use Rattle.module_image.specs.Keys.{key_addresses, keys}
 use Rattle.module_image.specs.Module.{IsModule, Module, States, tracer_of, wants}
-use Rattle.module_image.specs.Refusals.{Passes}
+use Rattle.module_image.specs.Refusals.{Passes, past_all, past_site_overlap}
 use Rattle.module_image.specs.Sites.{code_at, is_early, is_foreign, site_of, sites, starts_of, text}
 use Rattle.module_image.specs.Text.{AreApart}
-use Rattle.module_image.specs.Wants.{wanted}
+use Rattle.module_image.specs.Wants.{state_of, wanted}
 use Rattle.module_image.proofs.EarlyForms.{wanted_early}
 use Rattle.module_image.proofs.SiteLaws.{each_site, sites_apart_passed}
 use Rattle.module_image.proofs.Sound.{call_lens_passed, inside_passed, passes_before}
@@ -31,9 +31,9 @@ code_of_file elf m s is =
     ap (λ (b : ℕ). code_at b m.text s.at s.len) is.has_base ∙ ap (λ (t : List ℕ). code_at (base elf) t s.at s.len) is.has_text
 
 -- the form that a site wants
-pub want_of : (m : Module) (states : States) (i : ℕ) (s : Site) (form : Form) → slice_get m.sites i ≡ Some s → wants m states i ≡ Some form → wanted (unwrap_or (tracer_of m) 0) states.keys (slice_index_or states.traced i false) s.len s.kind ≡ form
+pub want_of : (m : Module) (states : States) (i : ℕ) (s : Site) (form : Form) → slice_get m.sites i ≡ Some s → wants m states i ≡ Some form → wanted (unwrap_or (tracer_of m) 0) (state_of states.keys s.kind) (slice_index_or states.traced i false) s.len s.kind ≡ form
 want_of m states i s form get want =
-    let of : Site → Form = λ (u : Site). wanted (unwrap_or (tracer_of m) 0) states.keys (slice_index_or states.traced i false) u.len u.kind in
+    let of : Site → Form = λ (u : Site). wanted (unwrap_or (tracer_of m) 0) (state_of states.keys u.kind) (slice_index_or states.traced i false) u.len u.kind in
     same_Some (of s) form (sym (ap (λ (o : Option Site). option_map of o) get) ∙ want)
 
 -- whether a site is foreign is told by the file's bytes
@@ -57,7 +57,7 @@ foreign_off ss i s apart get foreign j u here own = elim (cases_lt i j) [
 ]
 
 -- early writing leaves the bytes of a foreign site
-foreign_kept : (elf : Elf) (i : ℕ) (s : Site) → Passes elf 8 → slice_get (sites elf) i ≡ Some s → s.foreign ≡ true → code_at (base elf) (text elf) s.at s.len ≡ code_at (base elf) (file_text elf) s.at s.len
+pub foreign_kept : (elf : Elf) (i : ℕ) (s : Site) → Passes elf past_site_overlap → slice_get (sites elf) i ≡ Some s → s.foreign ≡ true → code_at (base elf) (text elf) s.at s.len ≡ code_at (base elf) (file_text elf) s.at s.len
 foreign_kept elf i s passes get foreign =
     sites_kept (base elf) (length (file_text elf)) (starts_of (keys elf)) (sites elf) (file_text elf) s.at s.len refl (inside_passed elf passes)
     (call_lens_passed elf) (inside_passed elf passes i s get).from
@@ -65,11 +65,13 @@ foreign_kept elf i s passes get foreign =
 
 -- a foreign site holds nothing that it ever wants
 pub foreign_hold : ForeignSitesHoldNoForm
-foreign_hold elf m states i s form is get foreign want spelt =
-    let passes : Passes elf 8 = passes_before elf 8 15 (omega arith) is.passes in
+foreign_hold m states i s form accepted get foreign want spelt =
+    let elf = accepted.elf in
+    let is = accepted.is in
+    let passes : Passes elf past_site_overlap = passes_before elf past_site_overlap past_all (omega arith) is.passes in
     let there : slice_get (sites elf) i ≡ Some s = site_of_file elf m i s is get in
     let code = code_of_file elf m s is ∙ foreign_kept elf i s passes there foreign in
     let early : is_early s.at s.len s.kind (code_at (base elf) (file_text elf) s.at s.len) ≡ true =
-    wanted_early (unwrap_or (tracer_of m) 0) states.keys (slice_index_or states.traced i false) s.at s.len s.kind (code_at (base elf) (file_text elf) s.at s.len)
+    wanted_early (unwrap_or (tracer_of m) 0) (state_of states.keys s.kind) (slice_index_or states.traced i false) s.at s.len s.kind (code_at (base elf) (file_text elf) s.at s.len)
     (ap (λ (f : Form). spell f s.at) (want_of m states i s form get want) ∙ spelt ∙ ap Some code) in
     true≢false (sym foreign ∙ foreign_told elf i s there ∙ ap (λ (b : Bool). not b) early)

@@ -14,9 +14,9 @@ use Rattle.module_image.specs.Entries.{base, file_text}
 use Rattle.module_image.specs.Held.{SitesHoldWhatTheyWant, first_states}
 use Rattle.module_image.specs.Keys.{keys}
 use Rattle.module_image.specs.Module.{IsModule, Module, tracer_of, wants}
-use Rattle.module_image.specs.Refusals.{Passes}
+use Rattle.module_image.specs.Refusals.{Passes, past_all, past_site_overlap}
 use Rattle.module_image.specs.Sites.{early_form, sites, starts_of}
-use Rattle.module_image.specs.Wants.{wanted}
+use Rattle.module_image.specs.Wants.{state_of, wanted}
 use Rattle.module_image.proofs.HeldForms.{code_of_file, site_of_file, want_of}
 use Rattle.module_image.proofs.Reaching.{forms_reach}
 use Rattle.module_image.proofs.SiteLaws.{sites_apart_passed}
@@ -25,27 +25,30 @@ use Rattle.module_image.proofs.StartLaws.{first_states as first_lead}
 use Rattle.module_image.proofs.WrittenSites.{sites_hold}
 
 -- while it isn't traced a site doesn't ask for the tracer
-untraced : (tracer : ℕ) (states : List ℕ) (len : ℕ) (kind : SiteKind) → wanted tracer states false len kind ≡ wanted 0 states false len kind
-untraced tracer states len (Jump target key likely) = refl
-untraced tracer states len (Call key) = refl
-untraced tracer states len (Tail key) = refl
-untraced tracer states len Trace = refl
+untraced : (tracer state len : ℕ) (kind : SiteKind) → wanted tracer state false len kind ≡ wanted 0 state false len kind
+untraced tracer state len (Jump target key likely) = refl
+untraced tracer state len (Call key) = refl
+untraced tracer state len (Tail key) = refl
+untraced tracer state len Trace = refl
 
 -- the form that a module's site wants at first is its early form
 first_want : (elf : Elf) (m : Module) (i : ℕ) (s : Site) (form : Form) → IsModule elf m → slice_get m.sites i ≡ Some s → wants m (first_states m) i ≡ Some form → form ≡ early_form (starts_of (keys elf)) s
 first_want elf m i s form is get want =
     let off : slice_index_or (replicate (length m.sites) false) i false ≡ false = get_or-replicate (length m.sites) i false false (slice_get_within m.sites i s get) in
     let tracer = unwrap_or (tracer_of m) 0 in
+    let state = state_of (starts_of m.keys) s.kind in
     sym (want_of m (first_states m) i s form get want)
-    ∙ ap (λ (on : Bool). wanted tracer (starts_of m.keys) on s.len s.kind) off
-    ∙ untraced tracer (starts_of m.keys) s.len s.kind
-    ∙ ap (λ (ks : List Key). wanted 0 (starts_of ks) false s.len s.kind) is.has_keys
+    ∙ ap (λ (on : Bool). wanted tracer state on s.len s.kind) off
+    ∙ untraced tracer state s.len s.kind
+    ∙ ap (λ (ks : List Key). wanted 0 (state_of (starts_of ks) s.kind) false s.len s.kind) is.has_keys
 
 -- a site that isn't foreign holds what it wants with the keys as the file has them
 pub wanted_held : SitesHoldWhatTheyWant
-wanted_held elf m i s form is get own want =
-    let passes : Passes elf 8 = passes_before elf 8 15 (omega arith) is.passes in
-    let reached = forms_reach elf m (first_states m) i s form is (first_lead elf m is) get own want in
+wanted_held m i s form accepted get own want =
+    let elf = accepted.elf in
+    let is = accepted.is in
+    let passes : Passes elf past_site_overlap = passes_before elf past_site_overlap past_all (omega arith) is.passes in
+    let reached = forms_reach m (first_states m) i s form accepted (first_lead m accepted) get own want in
     let early : spell (early_form (starts_of (keys elf)) s) s.at ≡ Some reached.0 = ap (λ (f : Form). spell f s.at) (sym (first_want elf m i s form is get want)) ∙ reached.1 in
     let held =
     sites_hold (base elf) (length (file_text elf)) (starts_of (keys elf)) (sites elf) (file_text elf) i s reached.0 refl (inside_passed elf passes)

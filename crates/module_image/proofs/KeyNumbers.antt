@@ -1,8 +1,7 @@
 -- The numbers of keys at sites: each stands for a key of its class.
 use Rattle.std.proofs.Common.{◌≡◌, ◌∙◌, ◌==◌, ◌<◌, ◌+◌, ◌⊎◌, inl, inr, ℕ, zero, suc, Bool, true, false, cond, nat_lt, List, [], ◌∷◌, ◌++◌, length, map, slice_get, Option, Some, None, refl, sym, ap, subst, arith}
-use Rattle.std.specs.Prelude.{⊤}
 use Rattle.std.proofs.lemmas.Bool.{eqb-true, eq-eqb}
-use Rattle.std.proofs.lemmas.Option.{same_Some, none-some}
+use Rattle.std.proofs.lemmas.Option.{same_Some, none-some, slice_get_within}
 use Rattle.elf_module.specs.Elf.{Elf}
 use Rattle.module_image.specs.declared.entry.Entry.{Entry}
 use Rattle.module_image.specs.declared.entry.EntryKind.{EntryKind}
@@ -15,6 +14,7 @@ use Rattle.module_image.specs.declared.site.SiteKind.{SiteKind}
 use Rattle.module_image.specs.declared.site.SiteKind.TheVariants.{Jump, Call, Tail, Trace}
 use Rattle.module_image.specs.Entries.{base, entries, file_text}
 use Rattle.module_image.specs.Keys.{key_in, with_key, with_named, gathered, key_addresses, place_in, number_of, key_of, keys}
+use Rattle.module_image.specs.Lent.{IsKeyOf, IsKeyed}
 use Rattle.module_image.specs.Module.{Module, IsModule}
 use Rattle.module_image.specs.Sites.{kind_of, site_of, sites}
 use Rattle.module_image.proofs.SiteLaws.{each_site}
@@ -71,49 +71,48 @@ there_gathered class key (x ∷ xs) ks zero e here names =
     kept_gathered class key xs (with_named (key_in class x.kind) ks) there
 there_gathered class key (x ∷ xs) ks (suc i) e here names = there_gathered class key xs (with_named (key_in class x.kind) ks) i e here names
 
--- a number stands for a key of a class
-pub record HasKey (all : List Key) (class : KeyClass) (number : ℕ) : Type 0 where
-  pub key : Key
-  pub here : slice_get all number ≡ Some key
-  pub is : key.class ≡ class
+-- a number at which a key of a class stands is that of one
+key_is : (all : List Key) (class : KeyClass) (n : ℕ) (key : Key) → slice_get all n ≡ Some key → key.class ≡ class → IsKeyOf all class n
+key_is all class n key here is = record { below = slice_get_within all n key here; key = key; here = here; is = is }
 
--- so do the places of the first and of the second of two lists
-first_key : (of : ℕ → Key) (class : KeyClass) (xs : List ℕ) (rest : List Key) (n : ℕ) → ((a : ℕ) → (of a).class ≡ class) → n < length xs → HasKey (map of xs ++ rest) class n
+-- so are the places of the first and of the second of two lists
+first_key : (of : ℕ → Key) (class : KeyClass) (xs : List ℕ) (rest : List Key) (n : ℕ) → ((a : ℕ) → (of a).class ≡ class) → n < length xs → IsKeyOf (map of xs ++ rest) class n
 first_key of class [] rest n each below = absurd (omega (arith, below))
-first_key of class (x ∷ xs) rest zero each below = record { key = of x; here = refl; is = each x }
-first_key of class (x ∷ xs) rest (suc n) each below = (let later = first_key of class xs rest n each (omega (arith, below)) in record { key = later.key; here = later.here; is = later.is })
+first_key of class (x ∷ xs) rest zero each below = key_is _ class zero (of x) refl (each x)
+first_key of class (x ∷ xs) rest (suc n) each below = (let later = first_key of class xs rest n each (omega (arith, below)) in key_is _ class (suc n) later.key later.here later.is)
 
-only_key : (of : ℕ → Key) (class : KeyClass) (xs : List ℕ) (n : ℕ) → ((a : ℕ) → (of a).class ≡ class) → n < length xs → HasKey (map of xs) class n
+only_key : (of : ℕ → Key) (class : KeyClass) (xs : List ℕ) (n : ℕ) → ((a : ℕ) → (of a).class ≡ class) → n < length xs → IsKeyOf (map of xs) class n
 only_key of class [] n each below = absurd (omega (arith, below))
-only_key of class (x ∷ xs) zero each below = record { key = of x; here = refl; is = each x }
-only_key of class (x ∷ xs) (suc n) each below = (let later = only_key of class xs n each (omega (arith, below)) in record { key = later.key; here = later.here; is = later.is })
+only_key of class (x ∷ xs) zero each below = key_is _ class zero (of x) refl (each x)
+only_key of class (x ∷ xs) (suc n) each below = (let later = only_key of class xs n each (omega (arith, below)) in key_is _ class (suc n) later.key later.here later.is)
 
 second_get : (of : ℕ → Key) (xs : List ℕ) (rest : List Key) (n : ℕ) → slice_get (map of xs ++ rest) (length xs + n) ≡ slice_get rest n
 second_get of [] rest n = (let same : 0 + n ≡ n = omega arith in ap (slice_get rest) same)
 second_get of (x ∷ xs) rest n = (let more : length (x ∷ xs) + n ≡ suc (length xs + n) = omega arith in rw more (second_get of xs rest n))
 
-second_key : (of : ℕ → Key) (class : KeyClass) (xs : List ℕ) (rest : List Key) (n : ℕ) → HasKey rest class n → HasKey (map of xs ++ rest) class (length xs + n)
-second_key of class xs rest n found = record { key = found.key; here = second_get of xs rest n ∙ found.here; is = found.is }
+second_key : (of : ℕ → Key) (class : KeyClass) (xs : List ℕ) (rest : List Key) (n : ℕ) → IsKeyOf rest class n → IsKeyOf (map of xs ++ rest) class (length xs + n)
+second_key of class xs rest n found = key_is _ class (length xs + n) found.key (second_get of xs rest n ∙ found.here) found.is
+
+-- the places below the length are those of keys of jumps, those after it of calls
+pub jump_place : (elf : Elf) (n : ℕ) → n < length (key_addresses elf JumpKey) → IsKeyOf (keys elf) JumpKey n
+jump_place elf n below =
+    first_key (key_of elf.sections JumpKey) JumpKey (key_addresses elf JumpKey) (map (key_of elf.sections CallKey) (key_addresses elf CallKey)) n (λ a. refl) below
+
+pub call_place : (elf : Elf) (n : ℕ) → n < length (key_addresses elf CallKey) → IsKeyOf (keys elf) CallKey (length (key_addresses elf JumpKey) + n)
+call_place elf n below =
+    second_key (key_of elf.sections JumpKey) CallKey (key_addresses elf JumpKey) (map (key_of elf.sections CallKey) (key_addresses elf CallKey)) n
+    (only_key (key_of elf.sections CallKey) CallKey (key_addresses elf CallKey) n (λ a. refl) below)
 
 -- the numbers of the keys that entries name
-jump_number : (elf : Elf) (i : ℕ) (e : Entry) (key : ℕ) → slice_get (entries elf) i ≡ Some e → key_in JumpKey e.kind ≡ Some key → HasKey (keys elf) JumpKey (number_of (key_addresses elf JumpKey) (key_addresses elf CallKey) JumpKey key)
+jump_number : (elf : Elf) (i : ℕ) (e : Entry) (key : ℕ) → slice_get (entries elf) i ≡ Some e → key_in JumpKey e.kind ≡ Some key → IsKeyOf (keys elf) JumpKey (number_of (key_addresses elf JumpKey) (key_addresses elf CallKey) JumpKey key)
 jump_number elf i e key here names =
-    first_key (key_of elf.sections JumpKey) JumpKey (key_addresses elf JumpKey) (map (key_of elf.sections CallKey) (key_addresses elf CallKey)) (place_in key (key_addresses elf JumpKey)) (λ a. refl)
-    (place_below key (key_addresses elf JumpKey) (there_gathered JumpKey key (entries elf) [] i e here names))
+    jump_place elf (place_in key (key_addresses elf JumpKey)) (place_below key (key_addresses elf JumpKey) (there_gathered JumpKey key (entries elf) [] i e here names))
 
-call_number : (elf : Elf) (i : ℕ) (e : Entry) (key : ℕ) → slice_get (entries elf) i ≡ Some e → key_in CallKey e.kind ≡ Some key → HasKey (keys elf) CallKey (number_of (key_addresses elf JumpKey) (key_addresses elf CallKey) CallKey key)
+call_number : (elf : Elf) (i : ℕ) (e : Entry) (key : ℕ) → slice_get (entries elf) i ≡ Some e → key_in CallKey e.kind ≡ Some key → IsKeyOf (keys elf) CallKey (number_of (key_addresses elf JumpKey) (key_addresses elf CallKey) CallKey key)
 call_number elf i e key here names =
-    second_key (key_of elf.sections JumpKey) CallKey (key_addresses elf JumpKey) (map (key_of elf.sections CallKey) (key_addresses elf CallKey)) (place_in key (key_addresses elf CallKey))
-    (only_key (key_of elf.sections CallKey) CallKey (key_addresses elf CallKey) (place_in key (key_addresses elf CallKey)) (λ a. refl)
-    (place_below key (key_addresses elf CallKey) (there_gathered CallKey key (entries elf) [] i e here names)))
+    call_place elf (place_in key (key_addresses elf CallKey)) (place_below key (key_addresses elf CallKey) (there_gathered CallKey key (entries elf) [] i e here names))
 
 -- the number at a site stands for a key of the site's class
-abbrev pub IsKeyed : List Key → SiteKind → Type 0
-IsKeyed all (Jump target key likely) = HasKey all JumpKey key
-IsKeyed all (Call key) = HasKey all CallKey key
-IsKeyed all (Tail key) = HasKey all CallKey key
-IsKeyed all Trace = ⊤
-
 entry_keyed : (elf : Elf) (i : ℕ) (e : Entry) (kind : EntryKind) → slice_get (entries elf) i ≡ Some e → e.kind ≡ kind → IsKeyed (keys elf) (kind_of (key_addresses elf JumpKey) (key_addresses elf CallKey) kind)
 entry_keyed elf i e (JumpEntry target key likely) here is = jump_number elf i e key here (ap (key_in JumpKey) is)
 entry_keyed elf i e (CallEntry key) here is = call_number elf i e key here (ap (key_in CallKey) is)
@@ -131,11 +130,8 @@ site_keyed elf m i s is here =
     subst (λ (all : List Key). IsKeyed all s.kind) (sym is.has_keys) (sites_keyed elf i s (ap (λ (ss : List Site). slice_get ss i) (sym is.has_sites) ∙ here))
 
 -- by the kind of a site
-pub call_site_key : (elf : Elf) (m : Module) (i : ℕ) (s : Site) (k : ℕ) → IsModule elf m → slice_get m.sites i ≡ Some s → s.kind ≡ Call k → HasKey m.keys CallKey k
+pub call_site_key : (elf : Elf) (m : Module) (i : ℕ) (s : Site) (k : ℕ) → IsModule elf m → slice_get m.sites i ≡ Some s → s.kind ≡ Call k → IsKeyOf m.keys CallKey k
 call_site_key elf m i s k is here kind = subst (IsKeyed m.keys) kind (site_keyed elf m i s is here)
 
-pub tail_site_key : (elf : Elf) (m : Module) (i : ℕ) (s : Site) (k : ℕ) → IsModule elf m → slice_get m.sites i ≡ Some s → s.kind ≡ Tail k → HasKey m.keys CallKey k
+pub tail_site_key : (elf : Elf) (m : Module) (i : ℕ) (s : Site) (k : ℕ) → IsModule elf m → slice_get m.sites i ≡ Some s → s.kind ≡ Tail k → IsKeyOf m.keys CallKey k
 tail_site_key elf m i s k is here kind = subst (IsKeyed m.keys) kind (site_keyed elf m i s is here)
-
-pub jump_site_key : (elf : Elf) (m : Module) (i : ℕ) (s : Site) (target k : ℕ) (likely : Bool) → IsModule elf m → slice_get m.sites i ≡ Some s → s.kind ≡ Jump target k likely → HasKey m.keys JumpKey k
-jump_site_key elf m i s target k likely is here kind = subst (IsKeyed m.keys) kind (site_keyed elf m i s is here)

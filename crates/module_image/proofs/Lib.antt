@@ -6,7 +6,6 @@ pub mod Named
 pub mod Rising
 pub mod SymbolNames
 pub mod Ascending
-pub mod ReadWithin
 pub mod SiteLaws
 pub mod WantedForms
 pub mod Positions
@@ -17,12 +16,14 @@ pub mod Starts
 pub mod Leading
 pub mod Endings
 pub mod UnitLaws
-pub mod SweptOnce
 pub mod Joined
 pub mod Sound
 pub mod KeyBytes
 pub mod KeyNumbers
 pub mod TextLength
+pub mod TextSize
+pub mod KeyCount
+pub mod NamedKeys
 pub mod Reached
 pub mod Grounds
 pub mod StartLaws
@@ -36,3 +37,5 @@ pub mod HeldWanted
 pub mod Flowing
 pub mod PlainFlows
 pub mod SiteFlows
+pub mod Lent
+pub mod FileBytes

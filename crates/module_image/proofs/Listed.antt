@@ -75,13 +75,6 @@ entry_added kind addr content i old before now entry before_is entry_is now_is =
     ∙ ap (λ (e : Entry). old ++ (entries_before kind addr content i ++ (e ∷ []))) entry_is
     ∙ ap (λ (es : List Entry). old ++ es) (sym (map-range_with_len_more (λ k. entry_in kind addr content (entry_size kind * k)) 0 i i from))
 
--- all were
-pub entries_whole : (kind : TableKind) (table : Table) (section : Section) → table.section ≡ Some section → IsWhole kind table
-    → entries_before kind section.addr section.content.now table.count ≡ table_entries kind (section_in table)
-entries_whole kind table section is whole =
-    ap (λ (n : ℕ). entries_before kind section.addr section.content.now n) (sym (section_entries kind table section is whole))
-    ∙ ap (λ (o : Option SectionRecord). table_entries kind o) (sym (section_there table section is))
-
 -- the three tables one after the other are all entries
 pub all_listed : (tables : Tables) (empty jumps calls traces : List Entry) → empty ≡ [] → jumps ≡ empty ++ table_entries JumpTable (section_in tables.jumps)
     → calls ≡ jumps ++ table_entries CallTable (section_in tables.calls) → traces ≡ calls ++ table_entries TraceTable (section_in tables.traces) → traces ≡ entries_of tables

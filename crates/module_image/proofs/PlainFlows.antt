@@ -56,7 +56,7 @@ noted_plain t units k (Some (Plain i l)) insn len swept here is =
     let same : Plain i l ≡ Plain insn len = ap (λ (x : Insn × ℕ). Plain x.0 x.1) (same_Some (i, l) (insn, len) is) in
     (there.0, there.1 ∙ same)
 
-plain_past : (t : Layout) (units : List Unit) (at : ℕ) (before : Bool) (insn : Insn) (len : ℕ) → IsSwept t units → nat_lt at t.base ≡ before → (if before then None else plain_of (slice_get units (at - t.base))) ≡ Some (insn, len) → IsStart t at × (unit_at t at ≡ Plain insn len)
+pub plain_past : (t : Layout) (units : List Unit) (at : ℕ) (before : Bool) (insn : Insn) (len : ℕ) → IsSwept t units → nat_lt at t.base ≡ before → (if before then None else plain_of (slice_get units (at - t.base))) ≡ Some (insn, len) → IsStart t at × (unit_at t at ≡ Plain insn len)
 plain_past t units at true insn len swept before is = cc
 plain_past t units at false insn len swept from is =
     let le = ltb-false at t.base from in
@@ -73,7 +73,9 @@ plain_led t units at insn len ground below plain start unit =
     }
 
 pub plain_flows : PlainInstructionsFlow
-plain_flows elf m p insn len is flows running here =
+plain_flows m p insn len accepted flows running here =
+    let elf = accepted.elf in
+    let is = accepted.is in
     let t = layout_of m in
     let ground = module_ground elf m is in
     let there = plain_past t m.units p.ip (nat_lt p.ip m.base) insn len ground.swept refl here in

@@ -2,28 +2,25 @@
 use Rattle.std.proofs.Common.{◌≡◌, ◌∙◌, ◌==◌, ◌<◌, ◌≤◌, ◌⊎◌, inl, inr, ℕ, ◌+◌, ◌^◌, Bool, true, false, cond, not, nat_lt, List, ◌∷◌, length, Option, Some, None, option_map, slice_get, slice_index, slice_index_or, refl, sym, ap, subst, arith}
 use Rattle.std.specs.Int.{w32}
 use Rattle.std.specs.Option.{unwrap_or}
-use Rattle.std.proofs.lemmas.Bool.{cases_lt}
-use Rattle.elf_module.specs.Elf.{Elf, SectionRecord}
+use Rattle.elf_module.specs.Elf.{Elf}
 use Rattle.insn_forms.specs.declared.forms.Form.{Form}
 use Rattle.insn_forms.specs.declared.forms.Form.TheVariants.{Nop2, Nop5, Jmp8, Jmp32, Call as CallTo, Ret}
 use Rattle.insn_forms.specs.Displacement.{displacement}
 use Rattle.insn_forms.specs.Spelling.{after, spell}
 use Rattle.insn_forms.proofs.Spellings.{length-spell}
-use Rattle.module_image.specs.declared.refused.Refused.TheVariants.{TextSize}
 use Rattle.module_image.specs.declared.site.Site.{Site}
 use Rattle.module_image.specs.declared.site.SiteKind.{SiteKind}
 use Rattle.module_image.specs.declared.site.SiteKind.TheVariants.{Jump, Call, Tail, Trace}
 use Rattle.module_image.specs.declared.unit.Unit.{Unit}
 use Rattle.module_image.specs.Early.{HasCallLen}
-use Rattle.module_image.specs.Entries.{bytes_of, file_text, text_section}
 use Rattle.module_image.specs.Flows.{LeadWell}
 use Rattle.module_image.specs.Held.{WantedFormsReach}
 use Rattle.module_image.specs.Layout.{IsStart, IsSwept, Layout, text_end}
 use Rattle.module_image.specs.Module.{IsModule, Module, States, layout_of, tracer_of}
 use Rattle.module_image.specs.Names.{functions, tracer, tracer_name}
-use Rattle.module_image.specs.Refusals.{IsBadText, IsTooFar, Passes}
+use Rattle.module_image.specs.Refusals.{IsTooFar, past_all, past_no_reach, past_tracer_missing}
 use Rattle.module_image.specs.Sites.{sites}
-use Rattle.module_image.specs.Wants.{jump_of, nop_of, traced, wanted}
+use Rattle.module_image.specs.Wants.{jump_of, nop_of, state_of, traced, wanted}
 use Rattle.module_image.proofs.Distances.{near_displaced}
 use Rattle.module_image.proofs.Grounds.{module_ground, module_leads}
 use Rattle.module_image.proofs.HeldForms.{site_of_file, want_of}
@@ -31,7 +28,7 @@ use Rattle.module_image.proofs.KeyNumbers.{call_site_key, tail_site_key}
 use Rattle.module_image.proofs.Passed.{none_too_far, none_traced}
 use Rattle.module_image.proofs.Reached.{function_reaches, jump_reaches}
 use Rattle.module_image.proofs.Sound.{call_lens_passed, passes_before}
-use Rattle.module_image.proofs.TextLength.{length_text}
+use Rattle.module_image.proofs.TextSize.{few_bytes}
 use Rattle.module_image.proofs.WantedForms.{size_wanted}
 
 -- a site's place in a text that is short and ends before the last address
@@ -100,11 +97,11 @@ jump_of_reaches t units at len target swept place near start (inr five) =
     (jump_far_reaches t units at target swept (subst (λ (n : ℕ). IsPlace t at n) five place) start)
 
 -- where a site's jump, its key's function or the tracer leads
-abbrev LeadsTo : Layout → ℕ → List ℕ → SiteKind → Type 0
-LeadsTo t tracer states (Jump target key likely) = IsStart t target
-LeadsTo t tracer states (Call key) = (slice_index states key ≡ 0) ⊎ IsStart t (slice_index states key)
-LeadsTo t tracer states (Tail key) = (slice_index states key ≡ 0) ⊎ IsStart t (slice_index states key)
-LeadsTo t tracer states Trace = IsStart t tracer
+abbrev pub LeadsTo : Layout → ℕ → ℕ → SiteKind → Type 0
+LeadsTo t tracer state (Jump target key likely) = IsStart t target
+LeadsTo t tracer state (Call key) = (state ≡ 0) ⊎ IsStart t state
+LeadsTo t tracer state (Tail key) = (state ≡ 0) ⊎ IsStart t state
+LeadsTo t tracer state Trace = IsStart t tracer
 
 switched_reaches : (test : Bool) (at len target : ℕ) → Reaches (jump_of len target) at → Reaches (cond test (jump_of len target) (nop_of len)) at
 switched_reaches true at len target jump = jump
@@ -121,47 +118,34 @@ traced_reaches true at tracer reaches = reaches
 traced_reaches false at tracer reaches = nop5_reaches at
 
 -- what a site wants reaches where it leads
-wanted_reaches : (t : Layout) (units : List Unit) (tracer : ℕ) (states : List ℕ) (on : Bool) (at len : ℕ) (kind : SiteKind) → IsSwept t units → IsPlace t at len → HasCallLen len kind → (IsTooFar at len kind → ⊥) → LeadsTo t tracer states kind → Reaches (wanted tracer states on len kind) at
-wanted_reaches t units tracer states on at len (Jump target key likely) swept place five near leads =
-    switched_reaches (cond likely (not (nat_lt 0 (slice_index states key))) (nat_lt 0 (slice_index states key))) at len target
+wanted_reaches : (t : Layout) (units : List Unit) (tracer state : ℕ) (on : Bool) (at len : ℕ) (kind : SiteKind) → IsSwept t units → IsPlace t at len → HasCallLen len kind → (IsTooFar at len kind → ⊥) → LeadsTo t tracer state kind → Reaches (wanted tracer state on len kind) at
+wanted_reaches t units tracer state on at len (Jump target key likely) swept place five near leads =
+    switched_reaches (cond likely (not (nat_lt 0 state)) (nat_lt 0 state)) at len target
     (jump_of_reaches t units at len target swept place near leads place.two_or_five)
-wanted_reaches t units tracer states on at len (Call key) swept place five near leads =
-    unless_zero (slice_index states key == 0) (slice_index states key) Nop5 (CallTo (slice_index states key)) at (IsStart t (slice_index states key)) refl leads (nop5_reaches at)
-    (λ start. call_reaches t units at (slice_index states key) swept (subst (λ (n : ℕ). IsPlace t at n) five place) start)
-wanted_reaches t units tracer states on at len (Tail key) swept place five near leads =
-    unless_zero (slice_index states key == 0) (slice_index states key) Ret (Jmp32 (slice_index states key)) at (IsStart t (slice_index states key)) refl leads (ret_reaches at)
-    (λ start. jump_far_reaches t units at (slice_index states key) swept (subst (λ (n : ℕ). IsPlace t at n) five place) start)
-wanted_reaches t units tracer states on at len Trace swept place five near leads =
+wanted_reaches t units tracer state on at len (Call key) swept place five near leads =
+    unless_zero (state == 0) state Nop5 (CallTo state) at (IsStart t state) refl leads (nop5_reaches at)
+    (λ start. call_reaches t units at state swept (subst (λ (n : ℕ). IsPlace t at n) five place) start)
+wanted_reaches t units tracer state on at len (Tail key) swept place five near leads =
+    unless_zero (state == 0) state Ret (Jmp32 state) at (IsStart t state) refl leads (ret_reaches at)
+    (λ start. jump_far_reaches t units at state swept (subst (λ (n : ℕ). IsPlace t at n) five place) start)
+wanted_reaches t units tracer state on at len Trace swept place five near leads =
     traced_reaches on at tracer (call_reaches t units at tracer swept (subst (λ (n : ℕ). IsPlace t at n) five place) leads)
-
--- the text of a module is short
-short_text : (elf : Elf) → Passes elf 3 → length (file_text elf) ≤ 65536
-short_text elf passes = by (text_section elf) refl
-  where
-    by : (o : Option SectionRecord) → text_section elf ≡ o → length (bytes_of o) ≤ 65536
-    by None is = omega arith
-    by (Some s) is = elim (cases_lt 65536 (length s.content)) [
-      | inl long ↦ absurd (passes.none (TextSize s.size) (omega arith) (subst (λ (o : Option SectionRecord). IsBadText o s.size) (sym is) (inr (inl long), refl)))
-      | inr short ↦ short
-    ]
 
 -- the place of a module's site
 module_place : (elf : Elf) (m : Module) (i : ℕ) (s : Site) → IsModule elf m → m.base + length m.text < 2 ^ 64 → slice_get m.sites i ≡ Some s → IsPlace (layout_of m) s.at s.len
 module_place elf m i s is below get =
     let inside = (module_ground elf m is).inside i s get in
-    let short = short_text elf (passes_before elf 3 15 (omega arith) is.passes) in
-    let size = ap (λ (t : List ℕ). length t) is.has_text ∙ length_text elf (passes_before elf 8 15 (omega arith) is.passes) in
-    record { from = inside.from; to = inside.to; two_or_five = inside.two_or_five; short = omega (arith, short, size); below = below }
+    record { from = inside.from; to = inside.to; two_or_five = inside.two_or_five; short = few_bytes elf m is; below = below }
 
 -- the tracer is a start where sites are traced
 tracer_leads : (elf : Elf) (m : Module) (i : ℕ) (s : Site) → IsModule elf m → slice_get m.sites i ≡ Some s → s.kind ≡ Trace → (o : Option ℕ) → tracer_of m ≡ o → IsStart (layout_of m) (unwrap_or o 0)
 tracer_leads elf m i s is get kind None told =
-    absurd (none_traced elf (passes_before elf 12 15 (omega arith) is.passes) (sym (is.named_functions tracer_name) ∙ told) i s (site_of_file elf m i s is get) kind)
+    absurd (none_traced elf (passes_before elf past_tracer_missing past_all (omega arith) is.passes) (sym (is.named_functions tracer_name) ∙ told) i s (site_of_file elf m i s is get) kind)
 tracer_leads elf m i s is get kind (Some at) told =
     function_reaches (layout_of m) (functions elf) tracer_name at (module_leads elf m is).of_functions (sym (is.named_functions tracer_name) ∙ told)
 
 -- where a module's site leads
-module_leads_to : (elf : Elf) (m : Module) (states : States) (i : ℕ) (s : Site) (kind : SiteKind) → IsModule elf m → LeadWell m states → slice_get m.sites i ≡ Some s → s.kind ≡ kind → LeadsTo (layout_of m) (unwrap_or (tracer_of m) 0) states.keys kind
+pub module_leads_to : (elf : Elf) (m : Module) (states : States) (i : ℕ) (s : Site) (kind : SiteKind) → IsModule elf m → LeadWell m states → slice_get m.sites i ≡ Some s → s.kind ≡ kind → LeadsTo (layout_of m) (unwrap_or (tracer_of m) 0) (state_of states.keys kind) kind
 module_leads_to elf m states i s (Jump target key likely) is lead get kind =
     jump_reaches (layout_of m) (sites elf) i s target key likely (module_leads elf m is).of_jumps (site_of_file elf m i s is get) kind
 module_leads_to elf m states i s (Call key) is lead get kind =
@@ -172,15 +156,17 @@ module_leads_to elf m states i s Trace is lead get kind = tracer_leads elf m i s
 
 -- the form that a site wants reaches its target, and has the site's length
 pub forms_reach : WantedFormsReach
-forms_reach elf m states i s form is lead get own want =
+forms_reach m states i s form accepted lead get own want =
+    let elf = accepted.elf in
+    let is = accepted.is in
     let there : slice_get (sites elf) i ≡ Some s = site_of_file elf m i s is get in
     let place : IsPlace (layout_of m) s.at s.len = module_place elf m i s is is.below get in
     let five = call_lens_passed elf i s there in
     let same = want_of m states i s form get want in
     let reached =
-    wanted_reaches (layout_of m) m.units (unwrap_or (tracer_of m) 0) states.keys (slice_index_or states.traced i false) s.at s.len s.kind
-    (module_ground elf m is).swept place five (none_too_far elf (passes_before elf 11 15 (omega arith) is.passes) i s there)
+    wanted_reaches (layout_of m) m.units (unwrap_or (tracer_of m) 0) (state_of states.keys s.kind) (slice_index_or states.traced i false) s.at s.len s.kind
+    (module_ground elf m is).swept place five (none_too_far elf (passes_before elf past_no_reach past_all (omega arith) is.passes) i s there)
     (module_leads_to elf m states i s s.kind is lead get refl) in
     let spelt = ap (λ (f : Form). spell f s.at) (sym same) ∙ reached.1 in
-    let long = size_wanted (unwrap_or (tracer_of m) 0) states.keys (slice_index_or states.traced i false) s.len s.kind place.two_or_five five in
+    let long = size_wanted (unwrap_or (tracer_of m) 0) (state_of states.keys s.kind) (slice_index_or states.traced i false) s.len s.kind place.two_or_five five in
     (reached.0, spelt, length-spell _ s.at reached.0 reached.1 ∙ long)

@@ -1,35 +1,28 @@
 -- What patched sites want leads from starts to starts.
-use Rattle.std.proofs.Common.{◌≡◌, ◌∙◌, ◌==◌, ◌⊎◌, inl, inr, ℕ, Bool, true, false, cond, List, slice_index_or, Option, Some, None, slice_get, option_map, refl, sym, ap, subst, arith, ◌+◌, ◌^◌, ◌<◌, length}
-use Rattle.std.specs.Prelude.{⊤, slice_index}
+use Rattle.std.proofs.Common.{◌≡◌, ◌==◌, ◌⊎◌, inl, inr, ℕ, Bool, true, false, cond, slice_index_or, Option, Some, refl, sym, subst}
+use Rattle.std.specs.Prelude.{⊤}
 use Rattle.std.specs.Option.{unwrap_or}
 use Rattle.std.proofs.lemmas.Bool.{eqb-false}
 use Rattle.std.proofs.lemmas.Option.{same_Some}
-use Rattle.elf_module.specs.Elf.{Elf}
 use Rattle.insn_forms.specs.declared.forms.Form.{Form}
 use Rattle.insn_forms.specs.declared.forms.Form.TheVariants.{Nop2, Nop5, Jmp8, Jmp32, Call as CallTo, Ret}
 use Rattle.insn_forms.specs.Spelling.{after}
 use Rattle.x64_subset.specs.declared.proc.Proc.{Proc}
 use Rattle.x64_subset.specs.Effect.{at_ip, does}
 use Rattle.x64_subset.specs.Whole.{insn_of, name_len, whole}
-use Rattle.module_image.specs.declared.key.KeyClass.TheVariants.{Call as CallKey}
-use Rattle.module_image.specs.declared.site.Site.{Site}
 use Rattle.module_image.specs.declared.site.SiteKind.{SiteKind}
 use Rattle.module_image.specs.declared.site.SiteKind.TheVariants.{Jump, Call, Tail, Trace}
 use Rattle.module_image.specs.Early.{HasCallLen}
-use Rattle.module_image.specs.Flows.{Flows, LeadWell, PatchedSitesFlow}
+use Rattle.module_image.specs.Flows.{Flows, PatchedSitesFlow}
 use Rattle.module_image.specs.Layout.{Layout, IsStart, is_tail}
-use Rattle.module_image.specs.Module.{Module, IsModule, States, layout_of, tracer_of, wants}
-use Rattle.module_image.specs.Names.{tracer, tracer_name}
-use Rattle.module_image.specs.Sites.{sites}
-use Rattle.module_image.specs.Wants.{called, jump_of, nop_of, tail_called, traced, wanted}
+use Rattle.module_image.specs.Module.{layout_of, tracer_of}
+use Rattle.module_image.specs.Wants.{called, jump_of, nop_of, state_of, tail_called, traced, wanted}
 use Rattle.module_image.proofs.Flowing.{moves, stays_flows}
-use Rattle.module_image.proofs.Grounds.{module_ground, module_leads, site_next, site_start}
-use Rattle.module_image.proofs.KeyNumbers.{HasKey, IsKeyed, site_keyed}
-use Rattle.module_image.proofs.Passed.{none_traced}
+use Rattle.module_image.proofs.Grounds.{module_ground, site_next, site_start}
+use Rattle.module_image.proofs.HeldForms.{site_of_file, want_of}
 use Rattle.module_image.proofs.PlainFlows.{IsLed, insn_flows}
-use Rattle.module_image.proofs.Reached.{jump_reaches}
-use Rattle.module_image.proofs.Sound.{call_lens_passed, passes_before}
-use Rattle.module_image.proofs.StartLaws.{functions_start}
+use Rattle.module_image.proofs.Reaching.{LeadsTo, module_leads_to}
+use Rattle.module_image.proofs.Sound.{call_lens_passed}
 
 -- where a form at an address leads
 abbrev pub LeadsOn : Layout → ℕ → Form → Type 0
@@ -96,65 +89,22 @@ traced_leads : (t : Layout) (at tracer : ℕ) (on : Bool) → IsStart t tracer �
 traced_leads t at tracer true to next = (to, next)
 traced_leads t at tracer false to next = next
 
--- what is known of a site's surroundings, by its kind
-abbrev HasLeads : Layout → ℕ → List ℕ → ℕ → ℕ → SiteKind → Type 0
-HasLeads t tracer states at len (Jump target key likely) = IsStart t target × ((len ≡ 2) ⊎ (len ≡ 5)) × IsStart t (after at len)
-HasLeads t tracer states at len (Call key) = ((slice_index states key ≡ 0) ⊎ IsStart t (slice_index states key)) × IsStart t (after at 5)
-HasLeads t tracer states at len (Tail key) = (slice_index states key ≡ 0) ⊎ IsStart t (slice_index states key)
-HasLeads t tracer states at len Trace = IsStart t tracer × IsStart t (after at 5)
+-- a site's, where it leads to a start, and goes on to one unless it is a tail call
+wanted_leads : (t : Layout) (tracer state : ℕ) (on : Bool) (at len : ℕ) (kind : SiteKind) → LeadsTo t tracer state kind → (len ≡ 2) ⊎ (len ≡ 5) → HasCallLen len kind → (is_tail kind ≡ false → IsStart t (after at len)) → LeadsOn t at (wanted tracer state on len kind)
+wanted_leads t tracer state on at len (Jump target key likely) to two_or_five five next = switched_leads t at len target _ two_or_five to (next refl)
+wanted_leads t tracer state on at len (Call key) to two_or_five five next = called_leads t at state to (subst (λ (n : ℕ). IsStart t (after at n)) five (next refl))
+wanted_leads t tracer state on at len (Tail key) to two_or_five five next = tail_leads t at state to
+wanted_leads t tracer state on at len Trace to two_or_five five next = traced_leads t at tracer on to (subst (λ (n : ℕ). IsStart t (after at n)) five (next refl))
 
-wanted_leads : (t : Layout) (tracer : ℕ) (states : List ℕ) (on : Bool) (at len : ℕ) (kind : SiteKind) → HasLeads t tracer states at len kind → LeadsOn t at (wanted tracer states on len kind)
-wanted_leads t tracer states on at len (Jump target key likely) leads = switched_leads t at len target _ leads.1 leads.0 leads.2
-wanted_leads t tracer states on at len (Call key) leads = called_leads t at (slice_index states key) leads.0 leads.1
-wanted_leads t tracer states on at len (Tail key) leads = tail_leads t at (slice_index states key) leads
-wanted_leads t tracer states on at len Trace leads = traced_leads t at tracer on leads.0 leads.1
-
--- the tracer is a start where there is a trace site
-tracer_start : (elf : Elf) (m : Module) (i : ℕ) (s : Site) → IsModule elf m → slice_get m.sites i ≡ Some s → s.kind ≡ Trace → IsStart (layout_of m) (unwrap_or (tracer_of m) 0)
-tracer_start elf m i s is here trace = by (tracer_of m) refl
-  where
-    by : (o : Option ℕ) → tracer_of m ≡ o → IsStart (layout_of m) (unwrap_or o 0)
-    by (Some at) there = functions_start elf m tracer_name at is there
-    by None missing =
-        let absent : tracer elf ≡ None = sym (is.named_functions tracer_name) ∙ missing in
-        let there : slice_get (sites elf) i ≡ Some s = ap (λ (ss : List Site). slice_get ss i) (sym is.has_sites) ∙ here in
-        absurd (none_traced elf (passes_before elf 12 15 (omega arith) is.passes) absent i s there trace)
-
--- the function of a site's key
-key_leads : (m : Module) (states : States) (k : ℕ) → LeadWell m states → HasKey m.keys CallKey k → (slice_index states.keys k ≡ 0) ⊎ IsStart (layout_of m) (slice_index states.keys k)
-key_leads m states k well found = well k found.key found.here found.is
-
--- sites that aren't of tails go on
-site_leads : (elf : Elf) (m : Module) (states : States) (i : ℕ) (s : Site) (kind : SiteKind) → IsModule elf m → m.base + length m.text < 2 ^ 64 → LeadWell m states → slice_get m.sites i ≡ Some s → s.foreign ≡ false → s.kind ≡ kind → IsKeyed m.keys kind → HasCallLen s.len kind → HasLeads (layout_of m) (unwrap_or (tracer_of m) 0) states.keys s.at s.len kind
-site_leads elf m states i s (Jump target key likely) is below well here ours kind keyed five =
-    let ground = module_ground elf m is in
-    let there : slice_get (sites elf) i ≡ Some s = ap (λ (ss : List Site). slice_get ss i) (sym is.has_sites) ∙ here in
-    let on = site_next (layout_of m) m.units i s ground below here ours (ap is_tail kind) in
-    (jump_reaches (layout_of m) (sites elf) i s target key likely (module_leads elf m is).of_jumps there kind, (ground.inside i s here).two_or_five, on)
-site_leads elf m states i s (Call key) is below well here ours kind keyed five =
-    let on = site_next (layout_of m) m.units i s (module_ground elf m is) below here ours (ap is_tail kind) in
-    (key_leads m states key well keyed, subst (λ (n : ℕ). IsStart (layout_of m) (after s.at n)) five on)
-site_leads elf m states i s (Tail key) is below well here ours kind keyed five = key_leads m states key well keyed
-site_leads elf m states i s Trace is below well here ours kind keyed five =
-    let on = site_next (layout_of m) m.units i s (module_ground elf m is) below here ours (ap is_tail kind) in
-    (tracer_start elf m i s is here kind, subst (λ (n : ℕ). IsStart (layout_of m) (after s.at n)) five on)
-
--- the sites of calls and traces have five bytes
-module_call_len : (elf : Elf) (m : Module) (i : ℕ) (s : Site) → IsModule elf m → slice_get m.sites i ≡ Some s → HasCallLen s.len s.kind
-module_call_len elf m i s is here = call_lens_passed elf i s (ap (λ (ss : List Site). slice_get ss i) (sym is.has_sites) ∙ here)
-
--- the form that a site wants
-wanted_form : (m : Module) (states : States) (i : ℕ) (s : Site) (form : Form) → slice_get m.sites i ≡ Some s → wants m states i ≡ Some form → wanted (unwrap_or (tracer_of m) 0) states.keys (slice_index_or states.traced i false) s.len s.kind ≡ form
-wanted_form m states i s form here want =
-    same_Some (wanted (unwrap_or (tracer_of m) 0) states.keys (slice_index_or states.traced i false) s.len s.kind) form
-    (sym (ap (option_map (λ (u : Site). wanted (unwrap_or (tracer_of m) 0) states.keys (slice_index_or states.traced i false) u.len u.kind)) here) ∙ want)
-
+-- a patched site's form, done as a whole
 pub patched_flows : PatchedSitesFlow
-patched_flows elf m states i s form p is well here ours want flows running =
+patched_flows m states i s form p accepted well here ours want flows running =
+    let elf = accepted.elf in
+    let is = accepted.is in
     let t = layout_of m in
-    let start = site_start t m.units i s (module_ground elf m is) here ours in
-    let leads = site_leads elf m states i s s.kind is is.below well here ours refl (site_keyed elf m i s is here) (module_call_len elf m i s is here) in
-    let on : LeadsOn t s.at form =
-    subst (LeadsOn t s.at) (wanted_form m states i s form here want)
-    (wanted_leads t (unwrap_or (tracer_of m) 0) states.keys (slice_index_or states.traced i false) s.at s.len s.kind leads) in
-    whole_flows t s.at form p start (flows.stands running) on flows
+    let ground = module_ground elf m is in
+    let leads =
+    wanted_leads t (unwrap_or (tracer_of m) 0) (state_of states.keys s.kind) (slice_index_or states.traced i false) s.at s.len s.kind
+    (module_leads_to elf m states i s s.kind is well here refl) (ground.inside i s here).two_or_five (call_lens_passed elf i s (site_of_file elf m i s is here))
+    (λ goes. site_next t m.units i s ground is.below here ours goes) in
+    whole_flows t s.at form p (site_start t m.units i s ground here ours) (flows.stands running) (subst (LeadsOn t s.at) (want_of m states i s form here want) leads) flows

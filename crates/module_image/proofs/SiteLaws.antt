@@ -1,21 +1,22 @@
 -- Laws of a module's sites: where they lie, and how many there are.
-use Rattle.std.proofs.Common.{◌≡◌, ◌≢◌, ◌∙◌, ◌==◌, ℕ, suc, zero, ◌+◌, ◌-◌, ◌<◌, ◌≤◌, ◌⊎◌, inl, inr, Bool, true, false, cond, nat_lt, nat_le, ltb-false, List, [], ◌∷◌, length, map, drop, length-drop, slice_get, slice_index_or, Option, Some, None, refl, sym, ap, subst, arith, true≢false}
+use Rattle.std.proofs.Common.{◌≡◌, ◌≢◌, ◌∙◌, ◌==◌, ℕ, suc, zero, ◌+◌, ◌-◌, ◌<◌, ◌≤◌, ◌⊎◌, inl, inr, Bool, true, false, cond, nat_lt, nat_le, ltb-false, List, [], ◌∷◌, length, map, drop, length-drop, slice_get, slice_index_or, Option, Some, None, Ok, Err, refl, sym, ap, subst, arith, true≢false}
 use Rattle.std.specs.Prelude.{⊤}
 use Rattle.std.proofs.lemmas.Bool.Decides.{Decides-eqb}
 use Rattle.std.proofs.lemmas.Option.{none-some, same_Some, slice_get-get_or}
 use Rattle.elf_module.specs.Elf.{Elf}
+use Rattle.x64_subset.specs.Reading.{Answer, read}
+use Rattle.x64_subset.proofs.WhatIsRead.{what_is_read}
 use Rattle.module_image.specs.declared.entry.Entry.{Entry}
 use Rattle.module_image.specs.declared.entry.EntryKind.{EntryKind}
 use Rattle.module_image.specs.declared.entry.EntryKind.TheVariants.{Jump as JumpEntry, Call as CallEntry, Tail as TailEntry, Trace as TraceEntry}
 use Rattle.module_image.specs.declared.refused.Refused.TheVariants.{SiteOverlap}
 use Rattle.module_image.specs.declared.site.Site.{Site}
 use Rattle.module_image.specs.Early.{HasCallLen, HaveCallLens}
-use Rattle.module_image.specs.Entries.{length_at}
+use Rattle.module_image.specs.Entries.{answer_len, length_at}
 use Rattle.module_image.specs.First.{HasNone}
-use Rattle.module_image.specs.Refusals.{IsOutsideOf, IsBadLength, Passes, room_of}
+use Rattle.module_image.specs.Refusals.{IsBadLength, IsOutsideOf, Passes, past_site_overlap, room_of}
 use Rattle.module_image.specs.Sites.{ascending, entry_len, insert_site, kind_of, overlap_after, site_of, sites}
 use Rattle.module_image.specs.Text.{AreApart, AreInside, IsInside}
-use Rattle.module_image.proofs.ReadWithin.{read_within}
 
 -- ---- room in the text
 
@@ -69,6 +70,14 @@ each_site P f es each i s get =
     every_at P (ascending (map f es)) i s (every_ascending P (map f es) (every_made P f es each)) get
 
 -- ---- the sites are in the text
+
+-- an instruction has no more bytes than there are
+read_within : (at : ℕ) (bytes : List ℕ) → answer_len (read at bytes) ≤ length bytes
+read_within at bytes = by (read at bytes) refl
+  where
+    by : (a : Answer) → read at bytes ≡ a → answer_len a ≤ length bytes
+    by (Ok (insn, len)) is = (what_is_read at bytes insn len is).3
+    by (Err why) is = omega arith
 
 -- an instruction ends in the text
 pub length_within : (base : ℕ) (text : List ℕ) (at : ℕ) → base ≤ at → at ≤ base + length text → at + length_at base text at ≤ base + length text
@@ -155,14 +164,14 @@ pub sites_apart : (xs : List Site) → overlap_after 0 xs ≡ None → AreApart 
 sites_apart xs none i j s u = apart_after 0 xs i j s u none
 
 -- those of a module without overlaps
-pub no_overlap : (elf : Elf) → Passes elf 8 → overlap_after 0 (sites elf) ≡ None
+pub no_overlap : (elf : Elf) → Passes elf past_site_overlap → overlap_after 0 (sites elf) ≡ None
 no_overlap elf passes = by (overlap_after 0 (sites elf)) refl
   where
     by : (found : Option ℕ) → overlap_after 0 (sites elf) ≡ found → found ≡ None
     by None e = refl
     by (Some at) e = absurd (passes.none (SiteOverlap at) (omega arith) e)
 
-pub sites_apart_passed : (elf : Elf) → Passes elf 8 → AreApart (sites elf)
+pub sites_apart_passed : (elf : Elf) → Passes elf past_site_overlap → AreApart (sites elf)
 sites_apart_passed elf passes = sites_apart (sites elf) (no_overlap elf passes)
 
 -- ---- how many there are

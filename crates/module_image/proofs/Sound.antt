@@ -13,7 +13,7 @@ use Rattle.module_image.specs.Found.{IsFound}
 use Rattle.module_image.specs.Keys.{gathered, key_addresses}
 use Rattle.module_image.specs.Layout.{Layout, laid, layout}
 use Rattle.module_image.specs.Names.{Named, functions, functions_from}
-use Rattle.module_image.specs.Refusals.{Passes, function_aims}
+use Rattle.module_image.specs.Refusals.{Passes, function_aims, past_site_count, past_site_length, past_site_outside, past_site_overlap}
 use Rattle.module_image.specs.Sites.{ascending, site_of, sites}
 use Rattle.module_image.specs.Sweeping.{AreMarks}
 use Rattle.module_image.specs.Text.{AreApart, AreInside, IsText}
@@ -25,18 +25,18 @@ pub passes_before : (elf : Elf) (early late : ℕ) → early ≤ late → Passes
 passes_before elf early late le passes =
     record { none = λ why before holds. passes.none why (omega (arith, le, before)) holds }
 
-pub inside_passed : (elf : Elf) → Passes elf 8 → AreInside (base elf) (length (file_text elf)) (sites elf)
+pub inside_passed : (elf : Elf) → Passes elf past_site_overlap → AreInside (base elf) (length (file_text elf)) (sites elf)
 inside_passed elf passes =
-    sites_inside (base elf) (length (file_text elf)) (file_text elf) (key_addresses elf Jump) (key_addresses elf Call) (entries elf) refl (none_outside elf (passes_before elf 6 8 (omega arith) passes)) (none_without_length elf (passes_before elf 7 8 (omega arith) passes))
+    sites_inside (base elf) (length (file_text elf)) (file_text elf) (key_addresses elf Jump) (key_addresses elf Call) (entries elf) refl (none_outside elf (passes_before elf past_site_outside past_site_overlap (omega arith) passes)) (none_without_length elf (passes_before elf past_site_length past_site_overlap (omega arith) passes))
 
 pub call_lens_passed : (elf : Elf) → HaveCallLens (sites elf)
 call_lens_passed elf =
     sites_call_lens (base elf) (file_text elf) (key_addresses elf Jump) (key_addresses elf Call) (entries elf)
 
-few_passed : (elf : Elf) → Passes elf 8 → length (sites elf) ≤ 1024
+pub few_passed : (elf : Elf) → Passes elf past_site_overlap → length (sites elf) ≤ 1024
 few_passed elf passes =
     let same = few_sites (site_of (base elf) (file_text elf) (key_addresses elf Jump) (key_addresses elf Call)) (entries elf) in
-    let few = few_entries elf (passes_before elf 5 8 (omega arith) passes) in
+    let few = few_entries elf (passes_before elf past_site_count past_site_overlap (omega arith) passes) in
     subst (λ (n : ℕ). n ≤ 1024) (sym same) few
 
 -- the sites of a list of entries, of a text and of keys that are the file's, are the file's
@@ -50,7 +50,7 @@ same_sites at at' text text' jumps jumps' calls calls' es es' same_at same_text 
     ∙ ap (λ (xs : List Entry). made_sites at' text' jumps' calls' xs) same_es
 
 -- the parts that were found are those of the file
-pub is_found : (elf : Elf) (found : Found) (list : List Entry) → IsText elf found.text → list ≡ entries elf → found.addresses.jumps.items ≡ gathered Jump list [] → found.addresses.calls.items ≡ gathered Call list [] → found.sites.items ≡ ascending (map (site_of found.text.base found.text.bytes.now found.addresses.jumps.items found.addresses.calls.items) list) → Passes elf 8 → IsFound elf found
+pub is_found : (elf : Elf) (found : Found) (list : List Entry) → IsText elf found.text → list ≡ entries elf → found.addresses.jumps.items ≡ gathered Jump list [] → found.addresses.calls.items ≡ gathered Call list [] → found.sites.items ≡ ascending (map (site_of found.text.base found.text.bytes.now found.addresses.jumps.items found.addresses.calls.items) list) → Passes elf past_site_overlap → IsFound elf found
 unfolding made_sites
 is_found elf found list is same jumps calls made passes =
     let jumps_are : found.addresses.jumps.items ≡ key_addresses elf Jump = jumps ∙ ap (λ (es : List Entry). gathered Jump es []) same in

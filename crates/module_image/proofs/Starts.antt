@@ -53,11 +53,3 @@ begins_start t units at swept = (
   begins_past t units at (nat_lt at t.base) swept refl,
   λ start. (let there = noted_unit t units at swept start in rw (le-ltb at t.base there.0, there.2) (unit_is t (unit_at t at) there.3)),
 )
-
--- a swept text decides where units begin
-pub start_or_not : (t : Layout) (units : List Unit) (at : ℕ) → IsSwept t units → IsStart t at ⊎ (IsStart t at → ⊥)
-start_or_not t units at swept = told (begins_at t.base units at) refl
-  where
-    told : (b : Bool) → begins_at t.base units at ≡ b → IsStart t at ⊎ (IsStart t at → ⊥)
-    told true is = inl ((begins_start t units at swept).0 is)
-    told false is = inr (λ start. (let begins = (begins_start t units at swept).1 start in cc))

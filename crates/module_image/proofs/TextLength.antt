@@ -10,9 +10,10 @@ use Rattle.module_image.specs.declared.site.Site.{Site}
 use Rattle.module_image.specs.Early.{HasCallLen, HaveCallLens}
 use Rattle.module_image.specs.Entries.{base, file_text}
 use Rattle.module_image.specs.Keys.{keys}
-use Rattle.module_image.specs.Refusals.{Passes}
+use Rattle.module_image.specs.Refusals.{Passes, past_site_overlap}
 use Rattle.module_image.specs.Sites.{early_form, form_code, put_at, site_written, sites, starts_of, text, written}
 use Rattle.module_image.specs.Text.{AreInside, IsInside}
+use Rattle.module_image.specs.Wants.{state_of}
 use Rattle.module_image.proofs.Sound.{call_lens_passed, inside_passed}
 use Rattle.module_image.proofs.WantedForms.{size_wanted}
 
@@ -43,7 +44,7 @@ length_site base states s bytes inside five = by s.foreign
         let from = inside.from in
         let to = inside.to in
         let most = code_most (early_form states s) s.at in
-        let same : size (early_form states s) ≡ s.len = size_wanted 0 states false s.len s.kind inside.two_or_five five in
+        let same : size (early_form states s) ≡ s.len = size_wanted 0 (state_of states s.kind) false s.len s.kind inside.two_or_five five in
         length_put bytes (form_code (early_form states s) s.at) (s.at - base) (omega (arith, from, to, most, same))
 
 -- and to write all sites
@@ -54,6 +55,6 @@ length_written base size states (s ∷ ss) bytes same inside fives =
     length_written base size states ss (site_written base states s bytes) (length_site base states s bytes first (fives 0 s refl) ∙ same)
     (λ i u get. inside (suc i) u get) (λ i u get. fives (suc i) u get)
 
-pub length_text : (elf : Elf) → Passes elf 8 → length (text elf) ≡ length (file_text elf)
+pub length_text : (elf : Elf) → Passes elf past_site_overlap → length (text elf) ≡ length (file_text elf)
 length_text elf passes =
     length_written (base elf) (length (file_text elf)) (starts_of (keys elf)) (sites elf) (file_text elf) refl (inside_passed elf passes) (call_lens_passed elf)

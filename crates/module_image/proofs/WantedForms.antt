@@ -1,18 +1,11 @@
--- The form that a site wants, by the state of its key.
-use Rattle.std.proofs.Common.{◌≡◌, ◌∙◌, ◌==◌, ℕ, ◌⊎◌, inl, inr, Bool, true, false, cond, List, refl, sym, ap}
+-- The form that a site wants has the site's length.
+use Rattle.std.proofs.Common.{◌≡◌, ◌∙◌, ◌==◌, ℕ, ◌⊎◌, inl, inr, Bool, true, false, cond, refl, sym, ap}
 use Rattle.insn_forms.specs.declared.forms.Form.TheVariants.{Nop5, Jmp32, Call as CallTo, Ret}
 use Rattle.insn_forms.specs.Spelling.{size}
 use Rattle.module_image.specs.declared.site.SiteKind.{SiteKind}
 use Rattle.module_image.specs.declared.site.SiteKind.TheVariants.{Jump, Call, Tail, Trace}
-use Rattle.module_image.specs.Early.{HasCallLen, state_of, wanted_by}
+use Rattle.module_image.specs.Early.{HasCallLen}
 use Rattle.module_image.specs.Wants.{called, jump_of, nop_of, tail_called, traced, wanted}
-
--- what a site wants, by all keys and by its own
-pub wanted_by_state : (tracer : ℕ) (states : List ℕ) (on : Bool) (len : ℕ) (kind : SiteKind) → wanted tracer states on len kind ≡ wanted_by tracer (state_of states kind) on len kind
-wanted_by_state tracer states on len (Jump target key likely) = refl
-wanted_by_state tracer states on len (Call key) = refl
-wanted_by_state tracer states on len (Tail key) = refl
-wanted_by_state tracer states on len Trace = refl
 
 -- a NOP and a jump of 2 or 5 bytes have as many
 size_nop : (len : ℕ) → (len ≡ 2) ⊎ (len ≡ 5) → size (nop_of len) ≡ len
@@ -46,8 +39,8 @@ size_traced tracer true = refl
 size_traced tracer false = refl
 
 -- the form that a site wants has the site's length
-pub size_wanted : (tracer : ℕ) (states : List ℕ) (on : Bool) (len : ℕ) (kind : SiteKind) → (len ≡ 2) ⊎ (len ≡ 5) → HasCallLen len kind → size (wanted tracer states on len kind) ≡ len
-size_wanted tracer states on len (Jump target key likely) h five = size_either _ len target h
-size_wanted tracer states on len (Call key) h five = size_called _ ∙ sym five
-size_wanted tracer states on len (Tail key) h five = size_tail_called _ ∙ sym five
-size_wanted tracer states on len Trace h five = size_traced tracer on ∙ sym five
+pub size_wanted : (tracer state : ℕ) (on : Bool) (len : ℕ) (kind : SiteKind) → (len ≡ 2) ⊎ (len ≡ 5) → HasCallLen len kind → size (wanted tracer state on len kind) ≡ len
+size_wanted tracer state on len (Jump target key likely) h five = size_either _ len target h
+size_wanted tracer state on len (Call key) h five = size_called _ ∙ sym five
+size_wanted tracer state on len (Tail key) h five = size_tail_called _ ∙ sym five
+size_wanted tracer state on len Trace h five = size_traced tracer on ∙ sym five

@@ -8,6 +8,7 @@ use Rattle.module_image.specs.declared.site.Site.{Site}
 use Rattle.module_image.specs.Early.{HasCallLen, HaveCallLens}
 use Rattle.module_image.specs.Sites.{code_at, early_form, form_code, put_at, site_written, written}
 use Rattle.module_image.specs.Text.{AreApart, AreInside, IsInside}
+use Rattle.module_image.specs.Wants.{state_of}
 use Rattle.module_image.proofs.Spliced.{at_put, beside_put}
 use Rattle.module_image.proofs.TextLength.{code_most, length_site}
 use Rattle.module_image.proofs.WantedForms.{size_wanted}
@@ -16,7 +17,7 @@ use Rattle.module_image.proofs.WantedForms.{size_wanted}
 early_length : (states : List ℕ) (s : Site) → (s.len ≡ 2) ⊎ (s.len ≡ 5) → HasCallLen s.len s.kind → length (form_code (early_form states s) s.at) ≤ s.len
 early_length states s two_or_five five =
     let most = code_most (early_form states s) s.at in
-    let same : size (early_form states s) ≡ s.len = size_wanted 0 states false s.len s.kind two_or_five five in
+    let same : size (early_form states s) ≡ s.len = size_wanted 0 (state_of states s.kind) false s.len s.kind two_or_five five in
     omega (arith, most, same)
 
 -- a site has none of the bytes at an address
@@ -46,7 +47,7 @@ site_holds base states s text code inside five own spelt =
     let from = inside.from in
     let to = inside.to in
     let same : form_code (early_form states s) s.at ≡ code = ap (λ (o : Option (List ℕ)). unwrap_or o []) spelt in
-    let long : length code ≡ s.len = length-spell (early_form states s) s.at code spelt ∙ size_wanted 0 states false s.len s.kind inside.two_or_five five in
+    let long : length code ≡ s.len = length-spell (early_form states s) s.at code spelt ∙ size_wanted 0 (state_of states s.kind) false s.len s.kind inside.two_or_five five in
     ap (λ (foreign : Bool). code_at base (cond foreign text (put_at text (s.at - base) (form_code (early_form states s) s.at))) s.at s.len) own
     ∙ ap (λ (bytes : List ℕ). code_at base (put_at text (s.at - base) bytes) s.at s.len) same
     ∙ at_put text code (s.at - base) s.len (omega (arith, from, to)) long

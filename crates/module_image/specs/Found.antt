@@ -1,5 +1,6 @@
 -- What was found of a module before and after its text is written.
-use Rattle.std.specs.Prelude.{◌≡◌, ◌≤◌, length}
+use Rattle.std.specs.Prelude.{◌≡◌, ◌<◌, ◌≤◌, length}
+use Rattle.std.specs.List.{All}
 use Rattle.elf_module.specs.Elf.{Elf}
 use Rattle.module_image.specs.declared.finding.Found.{Found}
 use Rattle.module_image.specs.declared.swept.Swept.{Swept}
@@ -29,6 +30,7 @@ pub record IsFound (elf : Elf) (found : Found) : Type 0 where
 -- the text after early writing, what it is made of, and that all jumps, calls, keys and functions lead to starts
 pub record IsSweptOf (elf : Elf) (found : Swept) : Type 0 where
   pub has_text : found.text.items ≡ text elf
+  pub bytes : All (λ byte. byte < 256) found.text.items
   pub same_length : length found.text.items ≡ length (file_text elf)
   pub units : IsSwept (layout elf) found.units.items
   pub marks : AreMarks (layout elf) found.marks.items

@@ -18,7 +18,9 @@ pub mod Leads
 pub mod Ending
 pub mod Refusals
 pub mod Module
+pub mod Lent
 pub mod Flows
+pub mod Command
 pub mod Held
 pub mod Found
 pub mod Inside

@@ -1,5 +1,6 @@
 -- An accepted module.
 use Rattle.std.specs.Prelude.{◌<◌, length, ◌≡◌, ℕ, ◌+◌, ◌-◌, Bool, true, false, ◌==◌, ◌&&◌, ◌%◌, ◌^◌, position, List, slice_get, slice_index_or, Option, Some, None, option_map, nat_lt, if◌then◌else◌}
+use Rattle.std.specs.List.{All}
 use Rattle.std.specs.Option.{unwrap_or}
 use Rattle.elf_module.specs.Elf.{Elf}
 use Rattle.insn_forms.specs.declared.forms.Form.{Form}
@@ -18,8 +19,8 @@ use Rattle.module_image.specs.Names.{Named, value_of, functions, key_names, trac
 use Rattle.module_image.specs.Sites.{sites, text}
 use Rattle.module_image.specs.Layout.{Layout, laid, layout, IsSwept}
 use Rattle.module_image.specs.Aims.{AllLead, jump_aims, key_aims}
-use Rattle.module_image.specs.Refusals.{Passes, function_aims}
-use Rattle.module_image.specs.Wants.{wanted}
+use Rattle.module_image.specs.Refusals.{Passes, function_aims, past_all}
+use Rattle.module_image.specs.Wants.{state_of, wanted}
 
 -- the text after early writing with what begins at each of its addresses, the sites and keys, and what the names of
 -- functions and keys stand for
@@ -84,7 +85,8 @@ pub record States : Type 0 where
 -- the form that the site with a number wants
 abbrev pub wants : Module → States → ℕ → Option Form
 wants m states i =
-    option_map (λ (s : Site). wanted (unwrap_or (tracer_of m) 0) states.keys (slice_index_or states.traced i false) s.len s.kind)
+    option_map
+    (λ (s : Site). wanted (unwrap_or (tracer_of m) 0) (state_of states.keys s.kind) (slice_index_or states.traced i false) s.len s.kind)
     (slice_get m.sites i)
 
 -- names stand for the same
@@ -93,11 +95,12 @@ SameNames kept ns = (name : List ℕ) → value_of name kept ≡ value_of name n
 
 -- no condition of a refusal holds of the file, and this is its module
 pub record IsModule (elf : Elf) (m : Module) : Type 0 where
-  pub passes : Passes elf 15
+  pub passes : Passes elf past_all
   pub has_base : m.base ≡ base elf
   -- no address of the text, and none after it, wraps
   pub below : m.base + length m.text < 2 ^ 64
   pub has_text : m.text ≡ text elf
+  pub bytes : All (λ byte. byte < 256) m.text
   pub has_sites : m.sites ≡ sites elf
   pub has_keys : m.keys ≡ keys elf
   pub swept : IsSwept (layout elf) m.units
@@ -105,3 +108,8 @@ pub record IsModule (elf : Elf) (m : Module) : Type 0 where
   pub named_functions : SameNames m.functions (functions elf)
   pub named_jump_keys : SameNames m.jump_keys (key_names elf JumpKey)
   pub named_call_keys : SameNames m.call_keys (key_names elf CallKey)
+
+-- a module is accepted: it is that of some file
+pub record IsAccepted (m : Module) : Type 0 where
+  pub elf : Elf
+  pub is : IsModule elf m

@@ -103,23 +103,66 @@ Holds elf (BadTarget from to) =
 Holds elf (EndFalls at) = IsFalling (layout elf) at
 Holds elf NoMemory = ⊥
 
--- the place of each refusal in the order; out of memory may come at any place
+-- the places in the order: each stands after the one that its name says, and the last after all of them
+abbrev pub past_text_count : ℕ
+past_text_count = 2
+
+abbrev pub past_text_size : ℕ
+past_text_size = past_text_count + 1
+
+abbrev pub past_table : ℕ
+past_table = past_text_size + 1
+
+abbrev pub past_site_count : ℕ
+past_site_count = past_table + 1
+
+abbrev pub past_site_outside : ℕ
+past_site_outside = past_site_count + 1
+
+abbrev pub past_site_length : ℕ
+past_site_length = past_site_outside + 1
+
+abbrev pub past_site_overlap : ℕ
+past_site_overlap = past_site_length + 1
+
+abbrev pub past_key_outside : ℕ
+past_key_outside = past_site_overlap + 1
+
+abbrev pub past_key_state : ℕ
+past_key_state = past_key_outside + 1
+
+abbrev pub past_no_reach : ℕ
+past_no_reach = past_key_state + 1
+
+abbrev pub past_tracer_missing : ℕ
+past_tracer_missing = past_no_reach + 1
+
+abbrev pub past_undecoded : ℕ
+past_undecoded = past_tracer_missing + 1
+
+abbrev pub past_bad_target : ℕ
+past_bad_target = past_undecoded + 1
+
+abbrev pub past_all : ℕ
+past_all = past_bad_target + 1
+
+-- the place of each refusal; out of memory may come at any place
 abbrev pub order : Refused → ℕ
 order (TextCount n) = 1
-order (TextSize n) = 2
-order (Table kind n) = 3
-order (SiteCount n) = 4
-order (SiteOutside at) = 5
-order (SiteLength at) = 6
-order (SiteOverlap at) = 7
-order (KeyOutside at) = 8
-order (KeyState at) = 9
-order (NoReach at) = 10
-order (TracerMissing at) = 11
-order (Undecoded at) = 12
-order (BadTarget from to) = 13
-order (EndFalls at) = 14
-order NoMemory = 15
+order (TextSize n) = past_text_count
+order (Table kind n) = past_text_size
+order (SiteCount n) = past_table
+order (SiteOutside at) = past_site_count
+order (SiteLength at) = past_site_outside
+order (SiteOverlap at) = past_site_length
+order (KeyOutside at) = past_site_overlap
+order (KeyState at) = past_key_outside
+order (NoReach at) = past_key_state
+order (TracerMissing at) = past_no_reach
+order (Undecoded at) = past_tracer_missing
+order (BadTarget from to) = past_undecoded
+order (EndFalls at) = past_bad_target
+order NoMemory = past_all
 
 -- no condition before a place holds
 pub record Passes (elf : Elf) (place : ℕ) : Type 0 where

@@ -16,7 +16,7 @@ use Rattle.module_image.specs.declared.site.SiteKind.{SiteKind}
 use Rattle.module_image.specs.declared.site.SiteKind.TheVariants.{Jump, Call, Tail, Trace}
 use Rattle.module_image.specs.Entries.{entries, base, file_text, length_at}
 use Rattle.module_image.specs.Keys.{key_addresses, number_of, keys}
-use Rattle.module_image.specs.Wants.{nop_of, jump_of, wanted}
+use Rattle.module_image.specs.Wants.{nop_of, jump_of, state_of, wanted}
 
 -- how many bytes a site has: a jump those of the instruction that stands there, which is 0 where none does
 abbrev pub entry_len : ℕ → List ℕ → ℕ → EntryKind → ℕ
@@ -98,7 +98,7 @@ starts_of ks = map (λ (k : Key). k.start) ks
 
 -- the form that a site wants at the start: no site is traced, so no tracer is asked for
 abbrev pub early_form : List ℕ → Site → Form
-early_form states s = wanted 0 states false s.len s.kind
+early_form states s = wanted 0 (state_of states s.kind) false s.len s.kind
 
 -- the text with other bytes from an offset on
 abbrev pub put_at : List ℕ → ℕ → List ℕ → List ℕ

@@ -26,10 +26,18 @@ tail_called func = if func == 0 then Ret else Jmp32 func
 abbrev pub traced : ℕ → Bool → Form
 traced tracer on = if on then CallTo tracer else Nop5
 
--- the form that a site of n bytes wants: the keys' states are counts and functions by their numbers, and
--- `on` says whether the site is traced
-abbrev pub wanted : ℕ → List ℕ → Bool → ℕ → SiteKind → Form
-wanted tracer states on len (Jump target key likely) = switched len target likely (slice_index states key)
-wanted tracer states on len (Call key) = called (slice_index states key)
-wanted tracer states on len (Tail key) = tail_called (slice_index states key)
-wanted tracer states on len Trace = traced tracer on
+-- the state of a site's key, a count or a function's address, among those of all keys by their numbers; a trace site
+-- has no key
+abbrev pub state_of : List ℕ → SiteKind → ℕ
+state_of states (Jump target key likely) = slice_index states key
+state_of states (Call key) = slice_index states key
+state_of states (Tail key) = slice_index states key
+state_of states Trace = 0
+
+-- the form that a site of n bytes wants, where its key has this state; `on` says whether a trace site is traced, and
+-- `tracer` is the function that is called there
+abbrev pub wanted : ℕ → ℕ → Bool → ℕ → SiteKind → Form
+wanted tracer state on len (Jump target key likely) = switched len target likely state
+wanted tracer state on len (Call key) = called state
+wanted tracer state on len (Tail key) = tail_called state
+wanted tracer state on len Trace = traced tracer on

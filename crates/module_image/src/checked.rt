@@ -4,7 +4,7 @@ ghost use Rattle.module_image.specs.Aims.{AllLead, function_aim, jump_aims, key_
 ghost use Rattle.module_image.specs.Keys.{keys};
 ghost use Rattle.module_image.specs.Layout.{IsSwept, layout};
 ghost use Rattle.module_image.specs.Names.{functions};
-ghost use Rattle.module_image.specs.Refusals.{Passes, Tries, function_aims};
+ghost use Rattle.module_image.specs.Refusals.{Passes, Tries, function_aims, past_all, past_bad_target, past_tracer_missing, past_undecoded};
 ghost use Rattle.module_image.specs.Sites.{sites};
 ghost use Rattle.module_image.specs.Sweeping.{AreMarks};
 ghost use Rattle.module_image.specs.Text.{AreInside, layout_in};
@@ -26,14 +26,14 @@ pub fn find_units(
     code: &Code<'_>,
     marks: &[Option<u32>],
 ) -> Result<Vec<Unit>, Refused>
-    requires passed { Passes file.now 12 }
+    requires passed { Passes file.now past_tracer_missing }
     requires laid { layout_in code.now ≡ layout file.now }
     requires some { 0 < length code.now.bytes.now }
     requires short { length code.now.bytes.now ≤ 65536 }
     requires below { code.now.base + length code.now.bytes.now < 2 ^ 64 }
     requires inside { AreInside code.now.base (length code.now.bytes.now) code.now.sites.now }
     requires marks { AreMarks (layout_in code.now) marks.now }
-    ensures tried { Tries file.now 13 result }
+    ensures tried { Tries file.now past_undecoded result }
     ensures swept { IfOk result (λ units. IsSwept (layout file.now) units.items) }
 {
     sweep(alloc, code, marks)
@@ -50,13 +50,13 @@ pub fn targets(
     found: &[Key],
     addresses: &[u64],
 ) -> Result<(), Refused>
-    requires passed { Passes file.now 13 }
+    requires passed { Passes file.now past_undecoded }
     requires laid { layout_in code.now ≡ layout file.now }
     requires below { code.now.base + length code.now.bytes.now < 2 ^ 64 }
     requires swept { IsSwept (layout file.now) units.now }
     requires keys { found.now ≡ keys file.now }
     requires functions { map function_aim addresses.now ≡ function_aims (functions file.now) }
-    ensures tried { Tries file.now 14 result }
+    ensures tried { Tries file.now past_bad_target result }
     ensures leads { OnOk result (AllLead (layout file.now) (jump_aims (sites file.now)) (key_aims (keys file.now)) (function_aims (functions file.now))) }
 {
     match bad_target(code, units, found, addresses) {
@@ -70,11 +70,11 @@ pub fn targets(
 /// # Errors
 /// `EndFalls` for it.
 pub fn end_falls(file: &ElfFile<'_>, code: &Code<'_>, units: &[Unit]) -> Result<(), Refused>
-    requires passed { Passes file.now 14 }
+    requires passed { Passes file.now past_bad_target }
     requires laid { layout_in code.now ≡ layout file.now }
     requires below { code.now.base + length code.now.bytes.now < 2 ^ 64 }
     requires swept { IsSwept (layout file.now) units.now }
-    ensures { Tries file.now 15 result }
+    ensures { Tries file.now past_all result }
 {
     match falling_end(code, units) {
         Some(at) => Err(Refused::EndFalls(at)),

@@ -1,8 +1,7 @@
 //! What may stand at a site in the file, and what it wants at the start.
 ghost use Rattle.std.specs.Prelude.{◌≡◌, slice_index};
-ghost use Rattle.module_image.specs.Early.{state_of, wanted_by};
 ghost use Rattle.module_image.specs.Sites.{holds, is_early, opens, starts_of};
-ghost use Rattle.module_image.specs.Wants.{called, jump_of, nop_of, switched, tail_called, traced};
+ghost use Rattle.module_image.specs.Wants.{called, jump_of, nop_of, state_of, switched, tail_called, traced, wanted};
 
 use crate::{Key, Site, SiteKind};
 use insn_forms::Form;
@@ -29,7 +28,7 @@ pub fn is_early(at: u64, len: u8, kind: SiteKind, code: &[u8]) -> bool
 /// The form that a site wants, where its key has this state, a count or a function's address; `on` says
 /// whether a trace site is traced, and `tracer` is the function that is called there.
 pub fn wanted_form(site: &Site, state: u64, on: bool, tracer: u64) -> Form
-    ensures { result ≡ wanted_by tracer state on site.now.len site.now.kind }
+    ensures { result ≡ wanted tracer state on site.now.len site.now.kind }
 {
     match site.kind {
         SiteKind::Jump { target, likely, .. } => switched(site.len, target, likely, state),

@@ -2,7 +2,7 @@
 ghost use Rattle.std.specs.Prelude.{◌≡◌, IfOk};
 ghost use Rattle.module_image.specs.declared.key.KeyClass.TheVariants.{Jump, Call};
 ghost use Rattle.module_image.specs.Keys.{key_addresses, keys};
-ghost use Rattle.module_image.specs.Refusals.{Passes, Tries};
+ghost use Rattle.module_image.specs.Refusals.{Passes, Tries, past_site_overlap};
 
 use crate::key_list::KeyAddresses;
 use crate::key_starts::read_keys;
@@ -31,7 +31,7 @@ impl<'a> Found<'a> {
     /// The first that holds of `TextCount`, `TextSize`, `Table`, `SiteCount`, `SiteOutside`, `SiteLength` and
     /// `SiteOverlap`; out of memory.
     pub fn of(alloc: Global, file: &ElfFile<'a>) -> Result<Found<'a>, Refused>
-        ensures tried { Tries file.now 8 result }
+        ensures tried { Tries file.now past_site_overlap result }
         ensures found { IfOk result (IsFound file.now) }
     {
         let text = find_text(file)?;

@@ -1,5 +1,6 @@
 //! Accepted modules.
-ghost use Rattle.std.specs.Prelude.{◌≡◌, ◌<◌, ◌^◌, length};
+ghost use Rattle.std.specs.Prelude.{◌≡◌, ◌<◌, ◌^◌, IfSome, length};
+ghost use Rattle.module_image.specs.Lent.{IsTraceSite};
 ghost use Rattle.module_image.specs.Module.{is_trace_at, trace_at};
 
 use crate::finding::{Found, find_keys};
@@ -49,11 +50,13 @@ impl Model for Image {
 }
 
 impl Image {
-    ghost use Rattle.std.specs.Prelude.{◌≡◌, ◌<◌, ◌^◌, IfOk, IfErr, length};
+    ghost use Rattle.std.specs.Prelude.{◌≡◌, ◌≤◌, ◌<◌, ◌+◌, ◌^◌, IfOk, IfErr, IfSome, MatchOption, length};
+    ghost use Rattle.module_image.specs.First.{HasNone};
     ghost use Rattle.module_image.specs.Layout.{site_at};
+    ghost use Rattle.module_image.specs.Lent.{IsInsnAt, IsKeyOf, IsPatchedSite, IsPlaceOf, IsTraceSite, KeysAreKnown};
     ghost use Rattle.module_image.specs.Names.{value_of};
-    ghost use Rattle.module_image.specs.Module.{IsModule, names_of, plain_at, trace_site_of, tracer_of};
-    ghost use Rattle.module_image.specs.Refusals.{IsRefusedFor};
+    ghost use Rattle.module_image.specs.Module.{IsAccepted, IsModule, names_of, plain_at, trace_site_of, tracer_of};
+    ghost use Rattle.module_image.specs.Refusals.{IsRefusedFor, IsTrace};
     ghost use Rattle.module_image.specs.Text.{AreInside, AreApart};
 
     /// Accepts the module of a file: finds its sites and keys, writes each site that holds one of its early forms
@@ -88,46 +91,65 @@ impl Image {
         })
     }
 
-    /// The address of the text's first byte.
+    /// A module that is lent is that of some file that was accepted. It does nothing: its clause is what all laws of
+    /// accepted modules ask for.
+    pub fn accepted(&self)
+        ensures { IsAccepted self.now }
+    {
+        let _base = &self.base;
+    }
+
+    /// The address of the text's first byte. No address of the text wraps, and none after it does.
     pub fn base(&self) -> u64
-        ensures { result ≡ self.now.base }
+        ensures base { result ≡ self.now.base }
+        ensures below { result + length self.now.text < 2 ^ 64 }
     {
         self.base
     }
 
-    /// The text, after early writing.
+    /// The text, after early writing: 1 to 65,536 bytes.
     pub fn text(&self) -> &[u8]
-        ensures { result.now ≡ self.now.text }
+        ensures text { result.now ≡ self.now.text }
+        ensures some { 1 ≤ length result.now }
+        ensures short { length result.now ≤ 65536 }
+        ensures below { self.now.base + length result.now < 2 ^ 64 }
     {
         &self.text
     }
 
-    /// The sites, ascending. No two share a byte, and all their bytes are in the text.
+    /// The sites, at most 1,024, ascending. No two share a byte, and all their bytes are in the text. The key of each
+    /// is one of `keys`, of the class that the site's kind asks for.
     pub fn sites(&self) -> &[Site]
         ensures sites { result.now ≡ self.now.sites }
         ensures inside { AreInside self.now.base (length self.now.text) self.now.sites }
         ensures apart { AreApart self.now.sites }
+        ensures few { length result.now ≤ 1024 }
+        ensures known { KeysAreKnown result.now self.now.keys }
     {
         &self.sites
     }
 
-    /// The keys: those of jumps, then those of calls, each ascending by address.
+    /// The keys, at most 1,024: those of jumps, then those of calls, each ascending by address.
     pub fn keys(&self) -> &[Key]
-        ensures { result.now ≡ self.now.keys }
+        ensures keys { result.now ≡ self.now.keys }
+        ensures few { length result.now ≤ 1024 }
     {
         &self.keys
     }
 
     /// The number of the site that isn't foreign and begins at an address. `None` exactly where there is none.
     pub fn site_at(&self, at: u64) -> Option<u32>
-        ensures { result ≡ site_at self.now.sites at }
+        ensures found { result ≡ site_at self.now.sites at }
+        ensures site { IfSome result (IsPatchedSite self.now.sites at) }
     {
         site_at(self.base, &self.marks, at)
     }
 
-    /// The plain instruction that begins at an address, with its length in bytes. `None` exactly where none does.
+    /// The plain instruction that begins at an address, with its length in bytes, all of which are in the text. `None`
+    /// exactly where none does.
     pub fn insn_at(&self, at: u64) -> Option<(Insn, u8)>
-        ensures { result ≡ plain_at self.now at }
+        ensures found { result ≡ plain_at self.now at }
+        ensures insn { IfSome result (IsInsnAt self.now at) }
     {
         plain_at(self.base, &self.units, at)
     }
@@ -135,7 +157,8 @@ impl Image {
     /// The number of the key that the first symbol of a name stands for which names a key of that class. `None`
     /// exactly where there is no such symbol.
     pub fn key_named(&self, class: KeyClass, name: &[u8]) -> Option<u32>
-        ensures { result ≡ value_of name.now (names_of self.now class) }
+        ensures found { result ≡ value_of name.now (names_of self.now class) }
+        ensures key { IfSome result (IsKeyOf self.now.keys class) }
     {
         match class {
             KeyClass::Jump => self.jump_keys.get(name),
@@ -143,10 +166,11 @@ impl Image {
         }
     }
 
-    /// The address of the function that the first symbol of a name stands for which names a function. `None`
-    /// exactly where there is no such symbol.
+    /// The address of the function that the first symbol of a name stands for which names a function. A unit begins
+    /// there. `None` exactly where there is no such symbol.
     pub fn function_named(&self, name: &[u8]) -> Option<u64>
-        ensures { result ≡ value_of name.now self.now.functions }
+        ensures found { result ≡ value_of name.now self.now.functions }
+        ensures place { IfSome result (IsPlaceOf self.now) }
     {
         self.functions.get(name)
     }
@@ -154,7 +178,8 @@ impl Image {
     /// The number of the trace site at a function's address, or where there is none of the one four bytes after
     /// it, after ENDBR64. `None` exactly where both are missing.
     pub fn trace_site_of(&self, function: u64) -> Option<u32>
-        ensures { result ≡ trace_site_of self.now function }
+        ensures found { result ≡ trace_site_of self.now function }
+        ensures site { IfSome result (IsTraceSite self.now.sites) }
     {
         match trace_at(&self.sites, function) {
             Some(site) => Some(site),
@@ -162,9 +187,11 @@ impl Image {
         }
     }
 
-    /// The address of the function `ftrace_caller`. `None` exactly where there is no such function.
+    /// The address of the function `ftrace_caller`. `None` exactly where there is no such function; no site is a trace
+    /// site then.
     pub fn tracer(&self) -> Option<u64>
-        ensures { result ≡ tracer_of self.now }
+        ensures found { result ≡ tracer_of self.now }
+        ensures place { MatchOption result (HasNone IsTrace self.now.sites) (IsPlaceOf self.now) }
     {
         self.tracer
     }
@@ -173,7 +200,8 @@ impl Image {
 /// The number of the first trace site at an address.
 fn trace_at(sites: &[Site], at: u64) -> Option<u32>
     requires { length sites.now < 2 ^ 32 }
-    ensures { result ≡ trace_at sites.now at }
+    ensures found { result ≡ trace_at sites.now at }
+    ensures site { IfSome result (IsTraceSite sites.now) }
 {
     let place = sites.iter().position(|site| is_trace_at(site, at))?;
     Some(place as u32)

@@ -1,6 +1,7 @@
 //! Laws of accepted modules: functions that do nothing, whose contracts are the laws.
-ghost use Rattle.module_image.specs.Flows.{FunctionsAreStarts, PatchedSitesFlow, PlainInstructionsFlow, SitesAreStarts};
-ghost use Rattle.module_image.specs.Held.{FirstStatesLeadWell, ForeignSitesHoldNoForm, SitesHoldWhatTheyWant, WantedFormsReach};
+ghost use Rattle.module_image.specs.Command.{CommandsLeadWell};
+ghost use Rattle.module_image.specs.Flows.{FunctionsAreStarts, PatchedSitesFlow, PlainInstructionsFlow, SitesAreStarts, StartsHaveUnits};
+ghost use Rattle.module_image.specs.Held.{FirstStatesLeadWell, ForeignSitesAreTheFiles, ForeignSitesHoldNoForm, LengthIsTheFiles, OtherBytesAreTheFiles, SitesHoldWhatTheyWant, WantedFormsReach};
 
 /// A plain instruction leads a processor from a start to a start: where it jumps, where it goes on, and where it
 /// returns to later.
@@ -42,4 +43,25 @@ pub fn foreign_sites_hold_no_form()
 /// The functions that keys have in the file are starts.
 pub fn first_states_lead_well()
     ensures { FirstStatesLeadWell }
+{}
+
+/// At a start a patched site begins or a plain instruction, and never both.
+pub fn starts_have_units()
+    ensures { StartsHaveUnits }
+{}
+
+/// What a command gives to a static call's key leads well, as the functions that keys have in the file do.
+pub fn commands_lead_well()
+    ensures { CommandsLeadWell }
+{}
+
+/// All bytes of the text that aren't those of a patched site are the file's, and it has as many.
+pub fn other_bytes_are_the_files()
+    ensures bytes { OtherBytesAreTheFiles }
+    ensures length { LengthIsTheFiles }
+{}
+
+/// A foreign site holds what the file has there.
+pub fn foreign_sites_are_the_files()
+    ensures { ForeignSitesAreTheFiles }
 {}

@@ -3,6 +3,7 @@
 
 mod aims;
 mod checked;
+mod command;
 mod early;
 mod ending;
 mod entry;
@@ -32,6 +33,7 @@ mod text_section;
 mod unit;
 mod writing;
 
+pub use command::Command;
 pub use early::wanted_form;
 use entry::{Entry, EntryKind};
 pub use image::Image;

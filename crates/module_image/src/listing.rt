@@ -4,7 +4,7 @@ ghost use Rattle.module_image.specs.declared.refused.Refused.TheVariants.{NoMemo
 ghost use Rattle.site_tables.specs.Entry.{entry_size};
 ghost use Rattle.site_tables.specs.Found.{AreWhole, IsWhole, section_in};
 ghost use Rattle.module_image.specs.Entries.{entries, jump_entry, call_entry};
-ghost use Rattle.module_image.specs.Refusals.{Passes, Tries};
+ghost use Rattle.module_image.specs.Refusals.{Passes, Tries, past_table, past_text_size};
 ghost use Rattle.module_image.specs.Tables.{entries_of, entry_in, table_entries};
 
 use crate::{Entry, EntryKind, Refused};
@@ -19,8 +19,8 @@ use std::alloc::Global;
 /// # Errors
 /// `Table` for the first, of jumps, calls and traces, that isn't whole entries.
 pub fn find_tables<'a>(file: &ElfFile<'a>) -> Result<Tables<'a>, Refused>
-    requires { Passes file.now 3 }
-    ensures tried { Tries file.now 4 result }
+    requires { Passes file.now past_text_size }
+    ensures tried { Tries file.now past_table result }
     ensures found { IfOk result (λ tables. entries_of tables ≡ entries file.now) }
     ensures whole { IfOk result AreWhole }
 {

@@ -4,7 +4,7 @@ ghost use Rattle.std.specs.Prelude.{◌≡◌, ◌≤◌, ◌<◌, ◌+◌, ◌^
 ghost use Rattle.module_image.specs.Entries.{entries, length_at};
 ghost use Rattle.module_image.specs.Keys.{keys};
 ghost use Rattle.module_image.specs.Names.{tracer};
-ghost use Rattle.module_image.specs.Refusals.{HasBadState, IsBadLength, IsOutOfReach, IsOutsideOf, IsTrace, Passes, Tries, room_of};
+ghost use Rattle.module_image.specs.Refusals.{HasBadState, IsBadLength, IsOutOfReach, IsOutsideOf, IsTrace, Passes, Tries, past_key_state, past_no_reach, past_site_count, past_site_length, past_site_outside, past_table, room_of};
 ghost use Rattle.module_image.specs.Sites.{sites};
 ghost use Rattle.module_image.specs.Text.{IsText};
 
@@ -23,9 +23,9 @@ const MOST_COUNT: u64 = 0x7fff_ffff;
 /// # Errors
 /// `SiteCount`.
 pub fn site_count(file: &ElfFile<'_>, count: u64) -> Result<(), Refused>
-    requires passed { Passes file.now 4 }
+    requires passed { Passes file.now past_table }
     requires counted { count ≡ length (entries file.now) }
-    ensures tried { Tries file.now 5 result }
+    ensures tried { Tries file.now past_site_count result }
     ensures few { OnOk result (length (entries file.now) ≤ 1024) }
 {
     if count > MOST_SITES {
@@ -39,10 +39,10 @@ pub fn site_count(file: &ElfFile<'_>, count: u64) -> Result<(), Refused>
 /// # Errors
 /// `SiteOutside` at the first.
 pub fn sites_outside(file: &ElfFile<'_>, text: &Text<'_>, list: &[Entry]) -> Result<(), Refused>
-    requires passed { Passes file.now 5 }
+    requires passed { Passes file.now past_site_count }
     requires text { IsText file.now text.now }
     requires list { list.now ≡ entries file.now }
-    ensures { Tries file.now 6 result }
+    ensures { Tries file.now past_site_outside result }
 {
     for entry in list {
         if is_outside(text, entry) {
@@ -57,10 +57,10 @@ pub fn sites_outside(file: &ElfFile<'_>, text: &Text<'_>, list: &[Entry]) -> Res
 /// # Errors
 /// `SiteLength` at the first.
 pub fn sites_length(file: &ElfFile<'_>, text: &Text<'_>, list: &[Entry]) -> Result<(), Refused>
-    requires passed { Passes file.now 6 }
+    requires passed { Passes file.now past_site_outside }
     requires text { IsText file.now text.now }
     requires list { list.now ≡ entries file.now }
-    ensures { Tries file.now 7 result }
+    ensures { Tries file.now past_site_length result }
 {
     for entry in list {
         if has_bad_length(text, entry) {
@@ -92,9 +92,9 @@ pub fn keys_state(file: &ElfFile<'_>, found: &[Key]) -> Result<(), Refused>
 /// # Errors
 /// `NoReach` at the first.
 pub fn no_reach(file: &ElfFile<'_>, found: &[Site]) -> Result<(), Refused>
-    requires passed { Passes file.now 10 }
+    requires passed { Passes file.now past_key_state }
     requires sites { found.now ≡ sites file.now }
-    ensures { Tries file.now 11 result }
+    ensures { Tries file.now past_no_reach result }
 {
     for site in found {
         if is_out_of_reach(site) {

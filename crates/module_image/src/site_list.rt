@@ -1,7 +1,7 @@
 //! The sites of a module, ascending.
 ghost use Rattle.std.specs.Prelude.{◌≡◌, ◌≤◌, ◌<◌, ◌+◌, ◌^◌, ℕ, Some, IfOk, IfErr, OnOk, length, map, slice_get};
 ghost use Rattle.module_image.specs.declared.refused.Refused.TheVariants.{NoMemory};
-ghost use Rattle.module_image.specs.Refusals.{IsOutsideOf, Passes, Tries, room_of};
+ghost use Rattle.module_image.specs.Refusals.{IsOutsideOf, Passes, Tries, past_site_length, past_site_overlap, room_of};
 ghost use Rattle.module_image.specs.Sites.{ascending, code_at, entry_len, kind_of, site_of, sites};
 
 use crate::early::is_early;
@@ -38,9 +38,9 @@ pub fn site_list(
 /// # Errors
 /// `SiteOverlap` for that site.
 pub fn overlap(file: &ElfFile<'_>, list: &[Site]) -> Result<(), Refused>
-    requires passed { Passes file.now 7 }
+    requires passed { Passes file.now past_site_length }
     requires sites { list.now ≡ sites file.now }
-    ensures { Tries file.now 8 result }
+    ensures { Tries file.now past_site_overlap result }
 {
     let mut end = 0;
     for site in list {

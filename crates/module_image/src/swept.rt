@@ -3,7 +3,7 @@ ghost use Rattle.std.specs.Prelude.{◌≡◌, map, IfOk};
 ghost use Rattle.module_image.specs.Aims.{function_aim};
 ghost use Rattle.module_image.specs.Keys.{keys};
 ghost use Rattle.module_image.specs.Names.{functions};
-ghost use Rattle.module_image.specs.Refusals.{Passes, Tries, function_aims};
+ghost use Rattle.module_image.specs.Refusals.{Passes, Tries, function_aims, past_all, past_tracer_missing};
 
 use crate::checked::{end_falls, find_units, targets};
 use crate::finding::Found;
@@ -37,11 +37,11 @@ impl Swept {
         list: &[Key],
         addresses: &[u64],
     ) -> Result<Swept, Refused>
-        requires passed { Passes file.now 12 }
+        requires passed { Passes file.now past_tracer_missing }
         requires found { IsFound file.now found.now }
         requires keys { list.now ≡ keys file.now }
         requires functions { map function_aim addresses.now ≡ function_aims (functions file.now) }
-        ensures tried { Tries file.now 15 result }
+        ensures tried { Tries file.now past_all result }
         ensures swept { IfOk result (IsSweptOf file.now) }
     {
         let text = write_sites(alloc, &found.text, list, &found.sites)?;

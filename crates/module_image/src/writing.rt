@@ -1,5 +1,6 @@
 //! The text with its early forms written.
-ghost use Rattle.std.specs.Prelude.{◌≡◌, ◌≤◌, ◌+◌, IfOk, IfErr, length};
+ghost use Rattle.std.specs.Prelude.{◌≡◌, ◌≤◌, ◌<◌, ◌+◌, IfOk, IfErr, length};
+ghost use Rattle.std.specs.List.{All};
 ghost use Rattle.insn_forms.specs.Spelling.{size};
 ghost use Rattle.module_image.specs.Early.{HasCallLen, HaveCallLens};
 ghost use Rattle.module_image.specs.Sites.{early_form, form_code, put_at, site_written, starts_of, written};
@@ -25,11 +26,20 @@ pub fn write_sites(
     requires call_lens { HaveCallLens sites.now }
     ensures bytes { IfOk result (λ out. out.items ≡ written text.now.base (starts_of keys.now) sites.now text.now.bytes.now) }
     ensures length { IfOk result (λ out. length out.items ≡ length text.now.bytes.now) }
+    ensures small { IfOk result (λ out. All (λ byte. byte < 256) out.items) }
     ensures failed { IfErr result (λ why. why ≡ NoMemory) }
 {
     let mut out = Vec::from_slice(alloc, text.bytes)?;
     write_all(&mut out, text.base, keys, sites);
+    are_bytes(&out);
     Ok(out)
+}
+
+/// Each byte of a text is below 256. It does nothing: its clause is what the text's type says.
+fn are_bytes(text: &[u8])
+    ensures { All (λ byte. byte < 256) text.now }
+{
+    let _length = text.len();
 }
 
 /// Writes the sites, one after the other, into the text at an address.

@@ -5,14 +5,14 @@ use Rattle.module_image.specs.declared.entry.Entry.{Entry}
 use Rattle.module_image.specs.declared.text.Text.{Text}
 use Rattle.module_image.specs.First.{HasNone}
 use Rattle.module_image.specs.Entries.{entries, length_at}
-use Rattle.module_image.specs.Refusals.{HasBadLength, IsBadLength, IsOutside, IsOutsideOf, Passes}
+use Rattle.module_image.specs.Refusals.{HasBadLength, IsBadLength, IsOutside, IsOutsideOf, Passes, past_site_outside}
 use Rattle.module_image.specs.Text.{IsText}
 use Rattle.module_image.proofs.Firsts.{below_tested, first_tested, none_at_end}
 use Rattle.module_image.proofs.Passed.{none_outside, passes-length, refused-length}
 use Rattle.module_image.proofs.rows.sites_length.Goals as goal
 
 -- an entry of the list is in the text
-inside : (elf : Elf) (text : Text) (list : List Entry) (i : ℕ) (d : Entry) → IsText elf text → list ≡ entries elf → Passes elf 6 → i < length list
+inside : (elf : Elf) (text : Text) (list : List Entry) (i : ℕ) (d : Entry) → IsText elf text → list ≡ entries elf → Passes elf past_site_outside → i < length list
     → IsOutsideOf text.base (length text.bytes.now) (get_or list i d) → ⊥
 inside elf text list i d is list_is passes below out =
     let none : HasNone (IsOutside elf) list = subst (λ (es : List Entry). HasNone (IsOutside elf) es) (sym list_is) (none_outside elf passes) in

@@ -1,8 +1,9 @@
-use Rattle.std.proofs.Common.{◌≡◌, ◌∙◌, List, ℕ, ap, length, subst, sym}
+use Rattle.std.proofs.Common.{◌≡◌, ◌∙◌, List, ℕ, ap, arith, length, rules, sym}
 use Rattle.module_image.specs.declared.site.Site.{Site}
 use Rattle.module_image.specs.Layout.{laid, layout}
+use Rattle.module_image.specs.Module.{IsModule}
 use Rattle.module_image.specs.Sites.{sites, text}
-use Rattle.module_image.specs.Text.{AreInside}
+use Rattle.module_image.proofs.Lent.{sound_of}
 use Rattle.module_image.proofs.Sound.{found_aims, found_marks}
 use Rattle.module_image.proofs.image.Image.accept.Goals as goal
 
@@ -21,10 +22,21 @@ invariant_of-result c =
     ap (λ (b : ℕ). laid b (text c.args.file.now) (sites c.args.file.now)) (sym found.is_text.same_base)
     ∙ ap (λ (t : List ℕ). laid at t (sites c.args.file.now)) (sym swept.has_text)
     ∙ ap (λ (ss : List Site). laid at bytes ss) (sym found.has_sites) in
-    record {
-      inside = subst (λ (n : ℕ). AreInside at n list) (ap length found.is_text.same_bytes ∙ sym swept.same_length) found.inside;
-      apart = found.apart;
-      marks = found_marks c.args.file.now at bytes list c.in_ok-swept.swept.marks.items same swept.marks;
-      few = found.few;
-      tracer = c.get-tracer.ensures;
-    }
+    let below = found.is_text.below in
+    let size = ap length found.is_text.same_bytes ∙ sym swept.same_length in
+    sound_of _ c.args.file.now
+    (record {
+      passes = c.in_ok-swept.ensures.tried;
+      has_base = found.is_text.same_base;
+      below = omega (arith, below, size);
+      has_text = swept.has_text;
+      bytes = swept.bytes;
+      has_sites = found.has_sites;
+      has_keys = c.in_ok-keys.ensures.found;
+      swept = swept.units;
+      leads = swept.leads;
+      named_functions = search rules;
+      named_jump_keys = search rules;
+      named_call_keys = search rules;
+    })
+    (found_marks c.args.file.now at bytes list c.in_ok-swept.swept.marks.items same swept.marks) c.get-tracer.ensures

@@ -1,0 +1,64 @@
+-- What an accepted module promises to whoever is lent it: what the numbers, addresses and instructions that it hands
+-- out stand for.
+use Rattle.std.specs.Prelude.{◌≡◌, ◌<◌, ◌≤◌, ℕ, ◌+◌, ⊤, true, false, List, length, slice_get, Some}
+use Rattle.x64_subset.specs.declared.insn.Insn.{Insn}
+use Rattle.x64_subset.specs.Subset.{is_listed}
+use Rattle.module_image.specs.declared.key.Key.{Key}
+use Rattle.module_image.specs.declared.key.KeyClass.{KeyClass}
+use Rattle.module_image.specs.declared.key.KeyClass.TheVariants.{Jump as JumpKey, Call as CallKey}
+use Rattle.module_image.specs.declared.site.Site.{Site}
+use Rattle.module_image.specs.declared.site.SiteKind.{SiteKind}
+use Rattle.module_image.specs.declared.site.SiteKind.TheVariants.{Jump, Call, Tail, Trace}
+use Rattle.module_image.specs.Layout.{IsStart}
+use Rattle.module_image.specs.Module.{Module, layout_of}
+use Rattle.module_image.specs.Names.{Named, value_of}
+
+-- a number is that of a key of a class
+pub record IsKeyOf (keys : List Key) (class : KeyClass) (number : ℕ) : Type 0 where
+  pub below : number < length keys
+  pub key : Key
+  pub here : slice_get keys number ≡ Some key
+  pub is : key.class ≡ class
+
+-- the key of a site, which a trace site hasn't, is of the class that its kind asks for
+abbrev pub IsKeyed : List Key → SiteKind → Type 0
+IsKeyed keys (Jump target key likely) = IsKeyOf keys JumpKey key
+IsKeyed keys (Call key) = IsKeyOf keys CallKey key
+IsKeyed keys (Tail key) = IsKeyOf keys CallKey key
+IsKeyed keys Trace = ⊤
+
+abbrev pub KeysAreKnown : List Site → List Key → Type 0
+KeysAreKnown sites keys = (i : ℕ) (s : Site) → slice_get sites i ≡ Some s → IsKeyed keys s.kind
+
+-- what names stand for are the numbers of keys of a class
+abbrev pub NamesAreKnown : List Key → KeyClass → List Named → Type 0
+NamesAreKnown keys class names = (name : List ℕ) (number : ℕ) → value_of name names ≡ Some number → IsKeyOf keys class number
+
+-- a number is that of a trace site
+pub record IsTraceSite (sites : List Site) (number : ℕ) : Type 0 where
+  pub below : number < length sites
+  pub site : Site
+  pub here : slice_get sites number ≡ Some site
+  pub is : site.kind ≡ Trace
+
+-- a number is that of a site that begins at an address and isn't foreign
+pub record IsPatchedSite (sites : List Site) (at number : ℕ) : Type 0 where
+  pub below : number < length sites
+  pub site : Site
+  pub here : slice_get sites number ≡ Some site
+  pub begins : site.at ≡ at
+  pub ours : site.foreign ≡ false
+
+-- an instruction of the subset of 1 to 9 bytes, which are in the text from an address on
+pub record IsInsnAt (m : Module) (at : ℕ) (found : Insn × ℕ) : Type 0 where
+  pub listed : is_listed found.0 ≡ true
+  pub some : 1 ≤ found.1
+  pub few : found.1 ≤ 9
+  pub from : m.base ≤ at
+  pub to : at + found.1 ≤ m.base + length m.text
+
+-- an address of the text at which a unit begins
+pub record IsPlaceOf (m : Module) (at : ℕ) : Type 0 where
+  pub start : IsStart (layout_of m) at
+  pub from : m.base ≤ at
+  pub to : at < m.base + length m.text
