@@ -1,5 +1,5 @@
 -- Worked examples of what the forms of patched sites do as whole instructions, and of their first instructions' bytes.
--- The processor stands at another address than the form, as it does where the form's instruction is read through a trap.
+-- The processor stands at another address than the form, so that they tell which of the two counts.
 use Rattle.std.specs.Prelude.{◌≡◌, ℕ, [], ◌∷◌, Some, None, replicate, slice_set, refl}
 use Rattle.insn_forms.specs.declared.forms.Form.TheVariants.{Nop2, Nop5, Jmp8, Jmp32, Call, Ret}
 use Rattle.x64_subset.specs.declared.proc.Proc.{Proc}

@@ -44,8 +44,8 @@ pub fn spelt_are_listed()
     ensures { SpeltAreListed }
 {}
 
-/// An instruction of the subset is spelt at each address, but for a jump or call whose displacement
-/// doesn't reach its target.
+/// An instruction of the subset, whose numbers have room in its fields, is spelt at each address, but for
+/// a jump or call whose displacement doesn't reach its target.
 pub fn listed_are_spelt()
     ensures { ListedAreSpelt }
 {}
