@@ -10,3 +10,4 @@ mod Fields
 pub mod Underways
 pub mod Walks
 pub mod Flags
+mod ManySites

@@ -2,8 +2,12 @@
 #![tactic(auto)]
 
 pub mod batch;
+#[cfg(test)]
+mod chunk_tests;
 pub mod laws;
 mod patch;
 mod stage;
+#[cfg(test)]
+mod tests;
 
 pub use batch::{Batch, Clash, Due};

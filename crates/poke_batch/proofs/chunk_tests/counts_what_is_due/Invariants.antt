@@ -1,0 +1,5 @@
+use Rattle.std.proofs.Common.{◌≡◌}
+use Rattle.poke_batch.proofs.chunk_tests.counts_what_is_due.Given as goal
+
+abbrev pub invariant-events : goal.invariant-events
+invariant-events l = l.batch.cpus ≡ 16
