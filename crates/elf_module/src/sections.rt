@@ -1,5 +1,5 @@
 //! The sections of a file, each of which stands in it.
-ghost use Rattle.std.specs.Prelude.{◌≡◌, ◌<◌, ◌≤◌, ◌+◌, ◌%◌, ◌^◌, ℕ, true, None, option_map, find, length, map, slice_get, slice_index_or, IfOk, IfSome, IsTrue, MatchOption};
+ghost use Rattle.std.specs.Prelude.{◌≡◌, ◌<◌, ◌≤◌, ◌+◌, ◌%◌, ◌^◌, ℕ, true, false, None, option_map, find, length, map, slice_get, slice_index_or, IfOk, IfSome, IsTrue, MatchOption};
 ghost use Rattle.std.specs.List.{range_with_len};
 ghost use Rattle.std.specs.Option.{option_or};
 ghost use Rattle.std.specs.Str.{bytes_eq};
@@ -198,21 +198,34 @@ impl<'a> Sections<'a> {
     {
         let mut bytes = [None; 16];
         for i in 0..self.headers.count {
-            if self.may_cover(i, at) {
+            if self.may_add(i, at, &bytes) {
                 bytes = self.load_over(i, at, &bytes);
             }
         }
         bytes
     }
 
-    /// Whether the section with an index may be loaded over one of the 16 bytes from an address on: it begins at
-    /// one, or has the first. Both differences wrap, as the addresses of the bytes do.
+    /// Whether one of the bytes from an address on is missing, and the section with an index may have it.
+    fn may_add(&self, index: u16, at: u64, bytes: &[Option<u8>; 16]) -> bool
+        requires { index < self.now.headers.count }
+        ensures { (k : ℕ) → k < 16 → slice_index_or bytes.now k None ≡ None → IsTrue (covers (section_at self.now.headers.bytes.now index) ((at + k) % 2 ^ 64)) → IsTrue result }
+    {
+        if !is_one_missing(bytes) {
+            return false;
+        }
+        self.may_cover(index, at)
+    }
+
+    /// Whether the section with an index may be loaded over one of the 16 bytes from an address on: it has the first,
+    /// or begins at one. The difference wraps, as the addresses of the bytes do.
     fn may_cover(&self, index: u16, at: u64) -> bool
         requires { index < self.now.headers.count }
         ensures { (k : ℕ) → k < 16 → IsTrue (covers (section_at self.now.headers.bytes.now index) ((at + k) % 2 ^ 64)) → IsTrue result }
     {
-        let header = self.headers.header(index);
-        header.addr.wrapping_sub(at) < 16 || at.wrapping_sub(header.addr) < header.size
+        if self.covers(index, at) {
+            return true;
+        }
+        self.headers.header(index).addr.wrapping_sub(at) < 16
     }
 
     /// Bytes from an address on, with those of the section with an index where one is missing.
@@ -273,4 +286,16 @@ impl<'a> Sections<'a> {
         }
         header.content(self.headers.bytes)[(at - header.addr) as usize]
     }
+}
+
+/// Whether one of these bytes is missing.
+fn is_one_missing(bytes: &[Option<u8>; 16]) -> bool
+    ensures { result ≡ false → (k : ℕ) → k < 16 → slice_index_or bytes.now k None ≡ None → ⊥ }
+{
+    for byte in bytes {
+        if byte.is_none() {
+            return true;
+        }
+    }
+    false
 }

@@ -4,7 +4,7 @@ use Rattle.std.proofs.lemmas.List.FromFn.{map-range_with_len_more}
 use Rattle.elf_module.specs.Elf.{SectionRecord, covers, e_shnum, loaded_from, section_at}
 use Rattle.elf_module.proofs.Loading.{loaded_over, loaded_aside}
 use Rattle.elf_module.proofs.sections.Sections.load_16.Goals as goal
-use Rattle.elf_module.proofs.sections.Sections.load_16.Goals.{then-may_cover, else-may_cover}
+use Rattle.elf_module.proofs.sections.Sections.load_16.Goals.{then-may_add, else-may_add}
 
 -- a test that passes of each section that has a byte, and fails, says that there is none
 aside : (covered result : Bool) → (covered ≡ true → result ≡ true) → result ≡ false → covered ≡ false
@@ -18,10 +18,11 @@ loop-i-preserved c =
     let before = map (section_at file) (range_with_len 0 i) in
     let more : before ++ section_at file i ∷ [] ≡ map (section_at file) (range_with_len 0 (i + 1)) = sym (map-range_with_len_more (section_at file) 0 i i (omega arith)) in
     let next = ap (λ (ss : List SectionRecord). loaded_from ss 16 c.args.at) more in
-    elim c.if-may_cover.branch [
-      | then-may_cover w ↦ w.bytes-is ∙ w.load_over-bytes.ensures ∙ loaded_over before (section_at file i) 16 c.args.at c.loop-i.bytes c.loop-i.invariant ∙ next
-      | else-may_cover w ↦ w.bytes-is ∙ c.loop-i.invariant
-          ∙ loaded_aside before (section_at file i) 16 c.args.at (λ k lt. aside (covers (section_at file i) ((c.args.at + k) % 2 ^ 64)) c.may_cover.result (c.may_cover.ensures k lt) w.if-may_cover.false) ∙ next
+    elim c.if-may_add.branch [
+      | then-may_add w ↦ w.bytes-is ∙ w.load_over-bytes.ensures ∙ loaded_over before (section_at file i) 16 c.args.at c.loop-i.bytes c.loop-i.invariant ∙ next
+      | else-may_add w ↦ w.bytes-is ∙ c.loop-i.invariant
+          ∙ loaded_aside before (section_at file i) 16 c.args.at c.loop-i.bytes c.loop-i.invariant
+          (λ k lt none. aside (covers (section_at file i) ((c.args.at + k) % 2 ^ 64)) c.may_add.result (c.may_add.ensures k lt none) w.if-may_add.false) ∙ next
     ]
 
 pub returns : goal.returns

@@ -9,7 +9,7 @@ use Rattle.module_image.proofs.image.Image.accept.Goals as goal
 
 pub of-requires-3-clause-functions : goal.of-requires-3-clause-functions
 of-requires-3-clause-functions c =
-    found_aims c.args.file.now c.in_ok-found.found.text.index c.deref-3.result.now c.in_ok-found.ensures.found.is_text.index (c.deref-3.ensures.value ∙ c.in_ok-names.ensures.names.addresses)
+    found_aims c.args.file.now c.in_ok-found.found.text.index c.deref-4.result.now c.in_ok-found.ensures.found.is_text.index (c.deref-4.ensures.value ∙ c.in_ok-names.ensures.names.addresses)
 
 pub invariant_of-result : goal.invariant_of-result
 invariant_of-result c =
