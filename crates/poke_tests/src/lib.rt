@@ -1,27 +1,32 @@
-//! Tests of the whole program: each command over a host in memory.
+//! Tests of the whole program, each command over a host in memory: what no contract says, with values
+//! from outside. `frame` runs the rows of a table, and `modules` has the modules that they share.
 #![tactic(auto)]
 
 #[cfg(test)]
+mod accepted;
+#[cfg(test)]
 mod asked_host;
 #[cfg(test)]
-mod check_tests;
+mod frame;
 #[cfg(test)]
-mod image_tests;
+mod images;
 #[cfg(test)]
-mod make_tests;
+mod makes;
 #[cfg(test)]
 mod modules;
 #[cfg(test)]
-mod order_tests;
+mod order;
 #[cfg(test)]
-mod refusal_tests;
+mod other_words;
 #[cfg(test)]
-mod show_tests;
+mod plans;
 #[cfg(test)]
-mod site_tests;
+mod refused;
 #[cfg(test)]
-mod tests;
+mod shows;
 #[cfg(test)]
-mod text_tests;
+mod sites;
 #[cfg(test)]
-mod written_tests;
+mod texts;
+#[cfg(test)]
+mod written;
