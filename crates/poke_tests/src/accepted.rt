@@ -1,8 +1,8 @@
 //! `check`: what is printed of modules that are accepted.
 
-use crate::frame::{accepts, accepts_file, host_after, run, run_failing};
+use crate::frame::{Failing, accepts, accepts_file, host_after, run_failing_calls};
 use crate::modules::{
-    F, Place, RETURN, SWITCH, Small, TWO_SWITCHES, call, file, file_of, jump, ten_blocks,
+    F, Place, RETURN, SWITCH, Small, TWO_SWITCHES, call, file, file_of, jump, ten_blocks, text_at,
 };
 use elf_build::{KeyStart, generated};
 use std::test::Fail;
@@ -46,7 +46,7 @@ fn a_thousand_sites_are_shown(rt: HostRuntime) -> Result<(), Fail> {
 fn failing_calls_leave_a_prefix(rt: HostRuntime) -> Result<(), Fail> {
     let write: &[u8] = b"textpoke: write failed\n";
     // The first call reads the file, and four prints follow.
-    let rows: [(u64, u8, &[u8], &[u8]); 6] = [
+    let rows: [Failing<'_>; 6] = [
         (1, 5, b"", b"textpoke: read failed\n"),
         (2, 6, b"text 40", write),
         (3, 6, b"text 401000 10\nsite 401000", write),
@@ -65,23 +65,7 @@ fn failing_calls_leave_a_prefix(rt: HostRuntime) -> Result<(), Fail> {
         (6, 0, TWO_SWITCHES_TEXT, b""),
     ];
     let module = file(rt.alloc(), &TWO_SWITCHES)?;
-    for (failing, status, printed, reported) in rows {
-        run_failing(
-            &rt,
-            Some(failing),
-            &(
-                "a call fails",
-                &["check", "m"],
-                &[("m", &module)],
-                status,
-                printed,
-                reported,
-            ),
-        )?;
-    }
-    let read = b"textpoke: read failed\n";
-    run(&rt, &("no such file", &["check", "m"], &[], 5, b"", read))?;
-    Ok(())
+    run_failing_calls(&rt, &["check", "m"], ("m", &module), &rows)
 }
 
 #[test]
@@ -115,18 +99,8 @@ fn texts_may_be_long_and_high(rt: HostRuntime) -> Result<(), Fail> {
     accepts(&rt, "long", &long, &[], b"text 401000 65536\naccepted\n")?;
 
     // The last byte stands at the last address but one.
-    let highest: [(Place, u8); 8] = [
-        (Place::Header(1, 16), 0xfe),
-        (Place::Header(1, 17), 0xff),
-        (Place::Header(1, 18), 0xff),
-        (Place::Header(1, 19), 0xff),
-        (Place::Header(1, 20), 0xff),
-        (Place::Header(1, 21), 0xff),
-        (Place::Header(1, 22), 0xff),
-        (Place::Header(1, 23), 0xff),
-    ];
     let printed = b"text fffffffffffffffe 1\naccepted\n";
-    accepts(&rt, "high", &RETURN, &highest, printed)
+    accepts(&rt, "high", &RETURN, &text_at(0xfe), printed)
 }
 
 #[test]

@@ -63,6 +63,26 @@ pub fn run<R: Abort + AllocGlobal>(rt: &R, row: &Row<'_>) -> Result<MemoryHost, 
     run_failing(rt, None, row)
 }
 
+/// Which call of the host fails, the status, what is printed and what is reported.
+pub type Failing<'a> = (u64, u8, &'a [u8], &'a [u8]);
+
+/// Runs a command on a file once for each row, and once where there is no such file, and asserts what
+/// comes of it. The first call of the host reads the file.
+pub fn run_failing_calls<R: Abort + AllocGlobal>(
+    rt: &R,
+    words: &[&str],
+    file: (&str, &[u8]),
+    rows: &[Failing<'_>],
+) -> Result<(), Fail> {
+    for &(failing, status, printed, reported) in rows {
+        let row: Row<'_> = ("a call fails", words, &[file], status, printed, reported);
+        run_failing(rt, Some(failing), &row)?;
+    }
+    let read = b"textpoke: read failed\n";
+    run(rt, &("no such file", words, &[], 5, b"", read))?;
+    Ok(())
+}
+
 /// The host after a command on a module, which is done and reports nothing.
 pub fn host_after<R: Abort + AllocGlobal>(
     rt: &R,

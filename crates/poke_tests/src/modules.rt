@@ -208,6 +208,20 @@ pub fn change(file: &mut [u8], edits: &[(Place, u8)]) {
     }
 }
 
+/// The edits after which the text stands at ffffffffffffff00 or higher, by the last byte of its address.
+pub fn text_at(last: u8) -> [(Place, u8); 8] {
+    [
+        (Place::Header(1, 16), last),
+        (Place::Header(1, 17), 0xff),
+        (Place::Header(1, 18), 0xff),
+        (Place::Header(1, 19), 0xff),
+        (Place::Header(1, 20), 0xff),
+        (Place::Header(1, 21), 0xff),
+        (Place::Header(1, 22), 0xff),
+        (Place::Header(1, 23), 0xff),
+    ]
+}
+
 /// `f` and a number.
 #[tactic(auto, using(poke_base::proofs::Numbers::line_room))]
 fn numbered(number: u32) -> Name {

@@ -1,6 +1,6 @@
 //! `plan`: what is printed of plan files, and why others are refused.
 
-use crate::frame::{run, run_failing, run_over};
+use crate::frame::{Failing, run, run_failing_calls, run_over};
 use poke_base::MemoryHost;
 use std::test::Fail;
 
@@ -136,7 +136,7 @@ fn failing_calls_have_a_status(rt: HostRuntime) -> Result<(), Fail> {
     let read: &[u8] = b"textpoke: read failed\n";
     let write: &[u8] = b"textpoke: write failed\n";
     // The first call reads the file, and nine prints follow.
-    let rows: [(u64, u8, &[u8], &[u8]); 11] = [
+    let rows: [Failing<'_>; 11] = [
         (1, 5, b"", read),
         (2, 6, b"w 4010", write),
         (3, 6, b"w 401000 cc\nsy", write),
@@ -174,22 +174,7 @@ fn failing_calls_have_a_status(rt: HostRuntime) -> Result<(), Fail> {
         ),
         (11, 0, NOP_TO_JMP_POKE, b""),
     ];
-    for (failing, status, printed, reported) in rows {
-        run_failing(
-            &rt,
-            Some(failing),
-            &(
-                "a call fails",
-                &["plan", "p"],
-                &[("p", NOP_TO_JMP)],
-                status,
-                printed,
-                reported,
-            ),
-        )?;
-    }
-    run(&rt, &("no such file", &["plan", "p"], &[], 5, b"", read))?;
-    Ok(())
+    run_failing_calls(&rt, &["plan", "p"], ("p", NOP_TO_JMP), &rows)
 }
 
 #[test]

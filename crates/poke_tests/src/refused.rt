@@ -3,7 +3,7 @@
 use crate::frame::{host_after, refuses, refuses_file};
 use crate::modules::{
     BRANCH, CALL, F, NO_FUNCTION, Place, RETURN, SWITCH, Small, TRACE, call, change, file_of, full,
-    jump, tail,
+    jump, tail, text_at,
 };
 use crate::texts::refuses_sites;
 use elf_build::{KeyStart, PlanSite};
@@ -30,16 +30,6 @@ fn a_module_has_one_text(rt: HostRuntime) -> Result<(), Fail> {
 
 #[test]
 fn a_text_has_bytes_and_a_place(rt: HostRuntime) -> Result<(), Fail> {
-    let highest: &[(Place, u8)] = &[
-        (Place::Header(1, 16), 0xff),
-        (Place::Header(1, 17), 0xff),
-        (Place::Header(1, 18), 0xff),
-        (Place::Header(1, 19), 0xff),
-        (Place::Header(1, 20), 0xff),
-        (Place::Header(1, 21), 0xff),
-        (Place::Header(1, 22), 0xff),
-        (Place::Header(1, 23), 0xff),
-    ];
     let text = vec![in rt.alloc(); 0xc3; 65_536]?;
     let longest = Small {
         text: &text,
@@ -65,7 +55,7 @@ fn a_text_has_bytes_and_a_place(rt: HostRuntime) -> Result<(), Fail> {
             b"TextSize 1201",
         ),
         ("empty", RETURN, &[(Place::Header(1, 32), 0)], b"TextSize 0"),
-        ("at the last address", RETURN, highest, b"TextSize 1"),
+        ("at the last address", RETURN, &text_at(0xff), b"TextSize 1"),
         (
             "too long",
             longest,

@@ -1,6 +1,6 @@
 //! `show`: what is printed of a module's tables, and why other files are refused.
 
-use crate::frame::{run, run_failing};
+use crate::frame::{Failing, run, run_failing_calls};
 use crate::modules::{Place, TWO_SWITCHES, change, file};
 use std::alloc::Global;
 use std::test::Fail;
@@ -161,7 +161,7 @@ fn failing_calls_have_a_status(rt: HostRuntime) -> Result<(), Fail> {
     let read: &[u8] = b"textpoke: read failed\n";
     let write: &[u8] = b"textpoke: write failed\n";
     // The first call reads the file, and two prints follow.
-    let rows: [(u64, u8, &[u8], &[u8]); 4] = [
+    let rows: [Failing<'_>; 4] = [
         (1, 5, b"", read),
         (2, 6, b"jump 401000 40100", write),
         (
@@ -173,20 +173,5 @@ fn failing_calls_have_a_status(rt: HostRuntime) -> Result<(), Fail> {
         (4, 0, JUMPS, b""),
     ];
     let module = changed(rt.alloc(), &[])?;
-    for (failing, status, printed, reported) in rows {
-        run_failing(
-            &rt,
-            Some(failing),
-            &(
-                "a call fails",
-                &["show", "m"],
-                &[("m", &module)],
-                status,
-                printed,
-                reported,
-            ),
-        )?;
-    }
-    run(&rt, &("no such file", &["show", "m"], &[], 5, b"", read))?;
-    Ok(())
+    run_failing_calls(&rt, &["show", "m"], ("m", &module), &rows)
 }

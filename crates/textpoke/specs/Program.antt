@@ -1,5 +1,5 @@
 -- What the process does for its arguments, and with which status it ends.
-use Rattle.std.specs.Prelude.{◌≡◌, ◌⊎◌, ⊥, ℕ, List, drop, Result, Ok, Err, String, Vec}
+use Rattle.std.specs.Prelude.{◌≡◌, ◌⊎◌, ℕ, List, drop, Result, Ok, Err, String, Vec}
 use Rattle.std.specs.declared.alloc.Global.{Global}
 use Rattle.std.specs.declared.vec.IntoIter.{IntoIter}
 use Rattle.std.specs.declared.io.Error.{Error}
@@ -7,13 +7,11 @@ use Rattle.std.specs.declared.io.ErrorKind.{ErrorKind}
 use Rattle.std.specs.declared.io.ErrorKind.TheVariants.{OutOfMemory}
 use Rattle.std.specs.IoError.{error_kind}
 use Rattle.std.specs.Vec.Iter.{into_iter_items}
-use Rattle.poke_base.specs.declared.host.WriteFail.{WriteFail}
-use Rattle.poke_base.specs.Host.{Outside, Complains}
+use Rattle.poke_base.specs.Host.{Outside}
 use Rattle.poke_tool.specs.declared.fault.Fault.{Fault}
 use Rattle.poke_tool.specs.declared.fault.Fault.TheVariants.{Words, Memory}
 use Rattle.poke_tool.specs.Command.{words_of}
-use Rattle.poke_tool.specs.Fault.{status_of, complaint_of}
-use Rattle.poke_tool.specs.Runs.{Runs}
+use Rattle.poke_tool.specs.Runs.{Ends, Runs}
 
 -- the arguments, the first of which is the program's name, or why they weren't read
 abbrev pub Args : Type 0
@@ -35,13 +33,7 @@ Gives (Ok args) (Err fault) = fault ≡ Memory
 Gives (Err why) (Ok words) = ⊥
 Gives (Err why) (Err fault) = fault ≡ args_fault (error_kind why)
 
--- a fault is reported, and gives the status whether the complaint went out or not
-pub record Reports (fault : Fault) (old new : Outside) (status : ℕ) : Type 0 where
-  pub status_is : status ≡ status_of fault
-  pub sent : Result (Unit {0}) WriteFail
-  pub complains : Complains old new (complaint_of fault) sent
-
 -- what the program does for its arguments: the command of the words, or a fault before it is reported
 abbrev pub RunsProgram : Args → Outside → Outside → ℕ → Type 0
-RunsProgram (Ok args) old new status = Runs (words_of (after_name args)) old new status ⊎ Reports Memory old new status
-RunsProgram (Err why) old new status = Reports (args_fault (error_kind why)) old new status
+RunsProgram (Ok args) old new status = Runs (words_of (after_name args)) old new status ⊎ Ends old new (Err Memory) status
+RunsProgram (Err why) old new status = Ends old new (Err (args_fault (error_kind why))) status

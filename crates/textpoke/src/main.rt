@@ -2,6 +2,8 @@
 #![tactic(auto)]
 
 mod program;
+#[cfg(test)]
+mod tests;
 
 use crate::program::run;
 use poke_base::RealHost;
