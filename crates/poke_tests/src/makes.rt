@@ -1,11 +1,8 @@
 //! `make`: the file that is made.
 
-use crate::asked_host::AskedHost;
-use crate::frame::{run, run_failing, run_over, words};
+use crate::frame::{run, run_failing, run_over};
 use crate::modules::{file_of, ten_blocks};
 use elf_build::generated;
-use poke_base::AskedBy;
-use poke_tool::textpoke;
 use std::test::Fail;
 
 #[test]
@@ -45,19 +42,6 @@ fn the_file_holds_the_module(rt: HostRuntime) -> Result<(), Fail> {
         let host = run(&rt, &(name, &["make", number, "m"], &[], 0, b"", b""))?;
         assert_eq!(rt; host.file("m"), Some(module), "{name}");
     }
-    Ok(())
-}
-
-#[test]
-fn the_one_name_is_asked(rt: HostRuntime) -> Result<(), Fail> {
-    let alloc = rt.alloc();
-    let mut host = AskedHost::new(alloc);
-    let status = textpoke(alloc, &words(alloc, &["make", "10", "m"])?, &mut host);
-    assert_eq!(rt; status, 0);
-    let asked = host.asked();
-    assert_eq!(rt; asked.len(), 1);
-    assert_eq!(rt; asked[0].0.as_str(), "m");
-    assert_eq!(rt; asked[0].1, AskedBy::Make);
     Ok(())
 }
 
