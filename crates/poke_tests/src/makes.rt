@@ -1,8 +1,9 @@
 //! `make`: the file that is made.
 
-use crate::frame::{run, run_failing, run_over};
+use crate::frame::{run, run_over};
 use crate::modules::{file_of, ten_blocks};
 use elf_build::generated;
+use poke_base::MemoryHost;
 use std::test::Fail;
 
 #[test]
@@ -49,19 +50,25 @@ fn the_file_holds_the_module(rt: HostRuntime) -> Result<(), Fail> {
 fn failing_calls_leave_a_prefix(rt: HostRuntime) -> Result<(), Fail> {
     let whole = ten_blocks(rt.alloc())?;
     let half = &whole[..whole.len() / 2];
-    let before: &[(&str, &[u8])] = &[("m", b"before")];
-
     // The first call makes the file, the second adds all of it.
-    let rows: [(&str, u64, &[(&str, &[u8])], Option<&[u8]>); 4] = [
-        ("not made", 1, &[], None),
-        ("not made again", 1, before, Some(b"before")),
-        ("made", 2, &[], Some(half)),
-        ("made again", 2, before, Some(half)),
+    let rows: [(&str, u64, Option<&[u8]>, Option<&[u8]>); 4] = [
+        ("not made", 1, None, None),
+        ("not made again", 1, Some(b"before"), Some(b"before")),
+        ("made", 2, None, Some(half)),
+        ("made again", 2, Some(b"before"), Some(half)),
     ];
-    for (name, failing, files, after) in rows {
+    for (name, failing, before, after) in rows {
+        let mut host = MemoryHost::new(rt.alloc());
+        if let Some(bytes) = before {
+            host.put("m", bytes)?;
+        }
+        host.fail_at(failing)?;
         let reported = b"textpoke: write failed\n";
-        let make: [&str; 3] = ["make", "10", "m"];
-        let host = run_failing(&rt, Some(failing), &(name, &make, files, 6, b"", reported))?;
+        run_over(
+            &rt,
+            &mut host,
+            &(name, &["make", "10", "m"], &[], 6, b"", reported),
+        )?;
         assert_eq!(rt; host.file("m"), after, "{name}");
     }
     Ok(())

@@ -6,6 +6,7 @@ use crate::modules::{
 };
 use elf_build::{KeyStart, PlanSite};
 use std::alloc::Global;
+use std::process::Abort;
 use std::test::Fail;
 
 #[test]
@@ -151,7 +152,8 @@ fn states_come_before_reach(rt: HostRuntime) -> Result<(), Fail> {
     let far = Small {
         text: &text,
         sites: &[jump(F, F + 130, 0)],
-        ..SWITCH
+        keys: &[(b"k", KeyStart::Count(0))],
+        functions: &[],
     };
     refuses(&rt, "reach", &far, &[], b"NoReach 401000")?;
     let negative = [(Place::File(0xe3), 0x80)];
@@ -168,6 +170,24 @@ fn long_text(alloc: Global, plain: &[u8], last: u8) -> Result<Vec<u8>, Fail> {
     Ok(text)
 }
 
+/// Asserts that `check` refuses such a text, whose jump leads to this target, and says why; a function has
+/// this name.
+fn refuses_long<R: Abort + AllocGlobal>(
+    rt: &R,
+    text: &[u8],
+    target: u64,
+    function: &[u8],
+    why: &[u8],
+) -> Result<(), Fail> {
+    let small = Small {
+        text,
+        sites: &[PlanSite::Trace { at: F }, jump(F + 7, target, 0)],
+        keys: &[(b"k", KeyStart::Count(0))],
+        functions: &[(function, F + 9)],
+    };
+    refuses(rt, "a long text", &small, &[], why)
+}
+
 #[test]
 fn reach_tracer_bytes_targets_and_end(rt: HostRuntime) -> Result<(), Fail> {
     let alloc = rt.alloc();
@@ -176,30 +196,11 @@ fn reach_tracer_bytes_targets_and_end(rt: HostRuntime) -> Result<(), Fail> {
     let astray = long_text(alloc, b"\xeb\xfa", 0x90)?;
     let falling = long_text(alloc, b"f\x90", 0x90)?;
     let tracer = b"ftrace_caller";
-    // A text, the target of its jump, the name of a function, and why it is refused.
-    let rows: [(&str, &[u8], u64, &[u8], &[u8]); 5] = [
-        ("reach", &cut, F + 137, b"f", b"NoReach 401007"),
-        ("tracer", &cut, F + 136, b"f", b"TracerMissing 401000"),
-        ("bytes", &cut, F + 136, tracer, b"Undecoded 401089"),
-        (
-            "target",
-            &astray,
-            F + 136,
-            tracer,
-            b"BadTarget 401005 401001",
-        ),
-        ("end", &falling, F + 136, tracer, b"EndFalls 401089"),
-    ];
-    for (name, text, target, function, why) in rows {
-        let small = Small {
-            text,
-            sites: &[PlanSite::Trace { at: F }, jump(F + 7, target, 0)],
-            functions: &[(function, F + 9)],
-            ..SWITCH
-        };
-        refuses(&rt, name, &small, &[], why)?;
-    }
-    Ok(())
+    refuses_long(&rt, &cut, F + 137, b"f", b"NoReach 401007")?;
+    refuses_long(&rt, &cut, F + 136, b"f", b"TracerMissing 401000")?;
+    refuses_long(&rt, &cut, F + 136, tracer, b"Undecoded 401089")?;
+    refuses_long(&rt, &astray, F + 136, tracer, b"BadTarget 401005 401001")?;
+    refuses_long(&rt, &falling, F + 136, tracer, b"EndFalls 401089")
 }
 
 /// Where a module leads: a plain jump by its displacement, a switch, a call's key and a function.

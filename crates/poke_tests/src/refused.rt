@@ -2,8 +2,8 @@
 
 use crate::frame::{host_after, refuses, refuses_file};
 use crate::modules::{
-    BRANCH, CALL, F, NO_FUNCTION, Place, RETURN, SWITCH, Small, TRACE, call, change, file_of, full,
-    jump, tail, text_at,
+    CALL, F, NO_FUNCTION, Place, RETURN, SWITCH, Small, TRACE, call, change, file_of, full, jump,
+    tail, text_at,
 };
 use crate::texts::refuses_sites;
 use elf_build::{KeyStart, PlanSite};
@@ -202,13 +202,14 @@ fn jumps_have_two_bytes_or_five(rt: HostRuntime) -> Result<(), Fail> {
 
 #[test]
 fn sites_are_apart(rt: HostRuntime) -> Result<(), Fail> {
+    let keys: [(&[u8], KeyStart); 2] = [(b"k", KeyStart::Count(0)), (b"ck", NO_FUNCTION)];
     let twice = Small {
-        sites: &[jump(F, F + 14, 0), jump(F, F + 14, 0)],
+        text: b"\x0f\x1fD\0\0\xc3",
+        sites: &[jump(F, F + 5, 0), jump(F, F + 5, 0)],
+        keys: &keys,
         functions: &[],
-        ..BRANCH
     };
     // The last bytes of a call, a foreign one, are a jump.
-    let keys: [(&[u8], KeyStart); 2] = [(b"k", KeyStart::Count(0)), (b"ck", NO_FUNCTION)];
     let inside = Small {
         text: b"\x0f\x1fDf\x90\xc3",
         sites: &[jump(F + 3, F + 5, 0), call(F, 1)],
