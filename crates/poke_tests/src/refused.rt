@@ -202,24 +202,23 @@ fn jumps_have_two_bytes_or_five(rt: HostRuntime) -> Result<(), Fail> {
 
 #[test]
 fn sites_are_apart(rt: HostRuntime) -> Result<(), Fail> {
-    let keys: [(&[u8], KeyStart); 2] = [(b"k", KeyStart::Count(0)), (b"ck", NO_FUNCTION)];
     let twice = Small {
         text: b"\x0f\x1fD\0\0\xc3",
         sites: &[jump(F, F + 5, 0), jump(F, F + 5, 0)],
-        keys: &keys,
+        keys: &[(b"k", KeyStart::Count(0))],
         functions: &[],
     };
     // The last bytes of a call, a foreign one, are a jump.
     let inside = Small {
         text: b"\x0f\x1fDf\x90\xc3",
         sites: &[jump(F + 3, F + 5, 0), call(F, 1)],
-        keys: &keys,
+        keys: &[(b"k", KeyStart::Count(0)), (b"ck", NO_FUNCTION)],
         functions: &[],
     };
     let reaching_out = Small {
         text: b"\x0f\x1fD\0f\x90\xc3",
         sites: &[jump(F + 4, F + 6, 0), call(F, 1)],
-        keys: &keys,
+        keys: &[(b"k", KeyStart::Count(0)), (b"ck", NO_FUNCTION)],
         functions: &[],
     };
     refuses(&rt, "twice", &twice, &[], b"SiteOverlap 401000")?;
