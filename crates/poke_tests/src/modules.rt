@@ -1,6 +1,6 @@
-//! Small modules for tests, written of plans whose text stands at 401000.
+//! Small modules, written of plans whose text stands at 401000.
 
-use elf_build::{KeyStart, Name, Plan, PlanFunction, PlanKey, PlanSite, write};
+use elf_build::{KeyStart, Name, Plan, PlanFunction, PlanKey, PlanSite, generated, write};
 use poke_base::{Line, put_dec, put_text};
 use std::alloc::Global;
 use std::test::Fail;
@@ -14,12 +14,93 @@ pub struct Small<'a> {
     pub functions: &'a [(&'a [u8], u64)],
 }
 
+/// Where the text of each module stands.
+pub const F: u64 = 0x40_1000;
+
+/// No function.
+pub const NO_FUNCTION: KeyStart = KeyStart::Func(0);
+
 /// A return, and nothing else.
 pub const RETURN: Small<'static> = Small {
     text: b"\xc3",
     sites: &[],
     keys: &[],
     functions: &[],
+};
+
+/// A return, which is the function that is called where something is traced.
+pub const TRACER: Small<'static> = Small {
+    text: b"\xc3",
+    sites: &[],
+    keys: &[],
+    functions: &[(b"ftrace_caller", F)],
+};
+
+/// A short switch that isn't likely, whose key isn't enabled, to the return after it.
+pub const SWITCH: Small<'static> = Small {
+    text: b"f\x90\xc3",
+    sites: &[PlanSite::Jump {
+        at: F,
+        target: F + 2,
+        key: 0,
+        likely: false,
+    }],
+    keys: &[(b"k", KeyStart::Count(0))],
+    functions: &[],
+};
+
+/// A call whose key holds no function, and a return.
+pub const CALL: Small<'static> = Small {
+    text: b"\x0f\x1fD\0\0\xc3",
+    sites: &[PlanSite::Call {
+        at: F,
+        key: 0,
+        tail: false,
+    }],
+    keys: &[(b"ck", NO_FUNCTION)],
+    functions: &[],
+};
+
+/// A traced NOP, and the function that it calls when it is traced, a return.
+pub const TRACE: Small<'static> = Small {
+    text: b"\x0f\x1fD\0\0\xc3",
+    sites: &[PlanSite::Trace { at: F }],
+    keys: &[],
+    functions: &[(b"ftrace_caller", F + 5)],
+};
+
+/// A function with two switches of one key, which isn't enabled: the second is likely.
+pub const TWO_SWITCHES: Small<'static> = Small {
+    text: b"f\x90\x0f\x1fD\0\0\xff\xc0\xc3",
+    sites: &[
+        PlanSite::Jump {
+            at: F,
+            target: F + 9,
+            key: 0,
+            likely: false,
+        },
+        PlanSite::Jump {
+            at: F + 2,
+            target: F + 9,
+            key: 0,
+            likely: true,
+        },
+    ],
+    keys: &[(b"j", KeyStart::Count(0))],
+    functions: &[(b"f", F)],
+};
+
+/// A switch between two loads, each with an output and a return after it.
+pub const BRANCH: Small<'static> = Small {
+    text: b"\x0f\x1fD\0\0\xb8\x01\0\0\0\xe6\x10\xc3\xcc\xb8\x02\0\0\0\xe6\x10\xc3",
+    sites: &[PlanSite::Jump {
+        at: F,
+        target: F + 14,
+        key: 0,
+        likely: false,
+    }],
+    keys: &[(b"k", KeyStart::Count(0))],
+    functions: &[(b"f", F), (b"leaf", F + 12), (b"brk", F + 13)],
 };
 
 /// A switch that isn't likely.
@@ -32,7 +113,7 @@ pub fn jump(at: u64, target: u64, key: u32) -> PlanSite {
     }
 }
 
-/// A call, and a tail call.
+/// A call.
 pub fn call(at: u64, key: u32) -> PlanSite {
     PlanSite::Call {
         at,
@@ -41,6 +122,7 @@ pub fn call(at: u64, key: u32) -> PlanSite {
     }
 }
 
+/// A tail call.
 pub fn tail(at: u64, key: u32) -> PlanSite {
     PlanSite::Call {
         at,
@@ -49,6 +131,7 @@ pub fn tail(at: u64, key: u32) -> PlanSite {
     }
 }
 
+/// A name of these bytes.
 fn name(bytes: &[u8]) -> Name {
     let mut name = Name::new();
     let _ = name.try_extend_from_slice(bytes);
@@ -72,7 +155,7 @@ pub fn plan(alloc: Global, small: &Small<'_>) -> Result<Plan, Fail> {
         })?;
     }
     Ok(Plan {
-        base: 0x40_1000,
+        base: F,
         text: Vec::from_slice(alloc, small.text)?,
         sites: Vec::from_slice(alloc, small.sites)?,
         keys,
@@ -81,12 +164,22 @@ pub fn plan(alloc: Global, small: &Small<'_>) -> Result<Plan, Fail> {
 }
 
 /// The file of a plan; empty where it doesn't fit.
-pub fn file(alloc: Global, plan: &Plan) -> Result<Vec<u8>, Fail> {
+pub fn file_of(alloc: Global, plan: &Plan) -> Result<Vec<u8>, Fail> {
     let mut out = Vec::new(alloc);
     if plan.fits() {
         write(plan, &mut out)?;
     }
     Ok(out)
+}
+
+/// The file of a module.
+pub fn file(alloc: Global, small: &Small<'_>) -> Result<Vec<u8>, Fail> {
+    file_of(alloc, &plan(alloc, small)?)
+}
+
+/// The file of the module that `make` makes with ten blocks.
+pub fn ten_blocks(alloc: Global) -> Result<Vec<u8>, Fail> {
+    file_of(alloc, &generated(alloc, 10)?)
 }
 
 /// Where a byte of a written file stands.
@@ -115,6 +208,20 @@ pub fn change(file: &mut [u8], edits: &[(Place, u8)]) {
     }
 }
 
+/// The edits after which the text stands at ffffffffffffff00 or higher, by the last byte of its address.
+pub fn text_at(last: u8) -> [(Place, u8); 8] {
+    [
+        (Place::Header(1, 16), last),
+        (Place::Header(1, 17), 0xff),
+        (Place::Header(1, 18), 0xff),
+        (Place::Header(1, 19), 0xff),
+        (Place::Header(1, 20), 0xff),
+        (Place::Header(1, 21), 0xff),
+        (Place::Header(1, 22), 0xff),
+        (Place::Header(1, 23), 0xff),
+    ]
+}
+
 /// `f` and a number.
 #[tactic(auto, using(poke_base::proofs::Numbers::line_room))]
 fn numbered(number: u32) -> Name {
@@ -127,16 +234,8 @@ fn numbered(number: u32) -> Name {
 /// 300 functions of a NOP that is traced and a return, after the function that they call when they
 /// are; a halt at the end.
 pub fn traced(alloc: Global) -> Result<Plan, Fail> {
-    let mut plan = plan(
-        alloc,
-        &Small {
-            text: b"\xc3",
-            sites: &[],
-            keys: &[],
-            functions: &[(b"ftrace_caller", 0x40_1000)],
-        },
-    )?;
-    let mut at = 0x40_1001;
+    let mut plan = plan(alloc, &TRACER)?;
+    let mut at = F + 1;
     for number in 0..300 {
         plan.text.extend_from_slice(b"\x0f\x1fD\0\0\xc3")?;
         plan.sites.push(PlanSite::Trace { at })?;
@@ -156,16 +255,8 @@ pub fn traced(alloc: Global) -> Result<Plan, Fail> {
 
 /// 1,024 traced NOPs, and the function that is called where they are traced.
 pub fn full(alloc: Global) -> Result<Plan, Fail> {
-    let mut plan = plan(
-        alloc,
-        &Small {
-            text: b"\xc3",
-            sites: &[],
-            keys: &[],
-            functions: &[(b"ftrace_caller", 0x40_1000)],
-        },
-    )?;
-    let mut at = 0x40_1001;
+    let mut plan = plan(alloc, &TRACER)?;
+    let mut at = F + 1;
     for _ in 0..1_024 {
         plan.text.extend_from_slice(b"\x0f\x1fD\0\0")?;
         plan.sites.push(PlanSite::Trace { at })?;

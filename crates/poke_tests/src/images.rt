@@ -1,6 +1,6 @@
 //! What an accepted module says of addresses and names.
 
-use crate::modules::{Place, Small, call, change, file, jump, plan};
+use crate::modules::{F, Place, Small, call, change, file, jump};
 use elf_build::{KeyStart, PlanSite};
 use elf_module::ElfFile;
 use module_image::{Image, Key, KeyClass};
@@ -8,9 +8,7 @@ use std::alloc::Global;
 use std::test::Fail;
 use x64_subset::Insn;
 
-/// Where the text stands, and the keys.
-const F: u64 = 0x40_1000;
-
+/// Where the keys stand.
 const K: u64 = 0x45_1000;
 
 /// ENDBR64 and a traced NOP after it, a switch, a load, a call and two returns. The key of the switch has two
@@ -35,7 +33,7 @@ fn module(alloc: Global) -> Result<Vec<u8>, Fail> {
             (b"f", F + 22),
         ],
     };
-    let mut bytes = file(alloc, &plan(alloc, &small)?)?;
+    let mut bytes = file(alloc, &small)?;
     // The value of the last symbol, `also_k`, becomes the address of `k`.
     change(&mut bytes, &[(Place::File(0x170), 0)]);
     Ok(bytes)

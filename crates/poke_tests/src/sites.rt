@@ -1,13 +1,10 @@
 //! What `check` prints of sites: those that are written to what their keys want, and foreign ones.
 
-use crate::check_tests::accepts;
-use crate::modules::{Small, call, jump, tail};
+use crate::frame::accepts;
+use crate::modules::{F, NO_FUNCTION, RETURN, Small, call, jump, tail};
 use elf_build::{KeyStart, PlanSite};
 use std::process::Abort;
 use std::test::Fail;
-
-/// Where the text stands.
-const F: u64 = 0x40_1000;
 
 /// The bytes of a NOP, of a load of 1 and of a call to what follows it, each with a return after it.
 const NOP: &[u8] = b"\x0f\x1fD\0\0\xc3";
@@ -16,105 +13,100 @@ const LOAD: &[u8] = b"\xb8\x01\0\0\0\xc3";
 
 const CALL: &[u8] = b"\xe8\0\0\0\0\xc3";
 
-/// No function.
-const NONE: KeyStart = KeyStart::Func(0);
+/// A name, a text with one site, its key's start, and what is printed.
+type Row<'a> = (&'a str, &'a [u8], PlanSite, KeyStart, &'a [u8]);
 
-/// A text with one site, its key's start, and what is printed of it.
-type Row<'a> = (&'a [u8], PlanSite, KeyStart, &'a [u8]);
-
-/// Asserts that `check` accepts a module with one site and one key, and prints this.
-fn accepts_one<R: Abort + AllocGlobal>(rt: &R, row: &Row<'_>) -> Result<(), Fail> {
-    let &(text, site, start, printed) = row;
-    let small = Small {
-        text,
-        sites: &[site],
-        keys: &[(b"k", start)],
-        functions: &[],
-    };
-    accepts(rt, &small, printed)
+/// Asserts of each row that `check` accepts a module with that site and key, and prints this.
+fn accepts_each<R: Abort + AllocGlobal>(rt: &R, rows: &[Row<'_>]) -> Result<(), Fail> {
+    for &(name, text, site, start, printed) in rows {
+        let small = Small {
+            text,
+            sites: &[site],
+            keys: &[(b"k", start)],
+            functions: &[],
+        };
+        accepts(rt, name, &small, &[], printed)?;
+    }
+    Ok(())
 }
 
 #[test]
 fn jumps_are_written(rt: HostRuntime) -> Result<(), Fail> {
+    let switch = jump(F, F + 5, 0);
     let likely = PlanSite::Jump {
         at: F,
         target: F + 5,
         key: 0,
         likely: true,
     };
+    let off = KeyStart::Count(0);
+    let on = KeyStart::Count(1);
+    let full = KeyStart::Count(0x7fff_ffff);
     let nop = b"text 401000 6\nsite 401000 jump 0f1f440000\naccepted\n";
     let jmp = b"text 401000 6\nsite 401000 jump e900000000\naccepted\n";
+    let short = b"text 401000 3\nsite 401000 jump 6690\naccepted\n";
     let rows: [Row<'_>; 7] = [
-        (NOP, jump(F, F + 5, 0), KeyStart::Count(0), nop),
-        (NOP, jump(F, F + 5, 0), KeyStart::Count(1), jmp),
-        (NOP, jump(F, F + 5, 0), KeyStart::Count(0x7fff_ffff), jmp),
-        (NOP, likely, KeyStart::Count(0), jmp),
-        (NOP, likely, KeyStart::Count(1), nop),
-        (
-            b"\xe9\0\0\0\0\xc3",
-            jump(F, F + 5, 0),
-            KeyStart::Count(0),
-            nop,
-        ),
-        (
-            b"\xeb\0\xc3",
-            jump(F, F + 2, 0),
-            KeyStart::Count(0),
-            b"text 401000 3\nsite 401000 jump 6690\naccepted\n",
-        ),
+        ("off", NOP, switch, off, nop),
+        ("on", NOP, switch, on, jmp),
+        ("the greatest count", NOP, switch, full, jmp),
+        ("likely and off", NOP, likely, off, jmp),
+        ("likely and on", NOP, likely, on, nop),
+        ("a jump that is off", b"\xe9\0\0\0\0\xc3", switch, off, nop),
+        ("a short one", b"\xeb\0\xc3", jump(F, F + 2, 0), off, short),
     ];
-    for row in rows {
-        accepts_one(&rt, &row)?;
-    }
-    Ok(())
+    accepts_each(&rt, &rows)
 }
 
 #[test]
 fn jumps_may_be_foreign(rt: HostRuntime) -> Result<(), Fail> {
+    let off = KeyStart::Count(0);
+    let on = KeyStart::Count(1);
     let rows: [Row<'_>; 6] = [
         (
+            "a load",
             LOAD,
             jump(F, F + 5, 0),
-            KeyStart::Count(1),
+            on,
             b"text 401000 6\nsite 401000 jump b801000000 foreign\naccepted\n",
         ),
         (
+            "an addition",
             b"\x01\xc9\xc3",
             jump(F, F + 2, 0),
-            KeyStart::Count(1),
+            on,
             b"text 401000 3\nsite 401000 jump 01c9 foreign\naccepted\n",
         ),
-        // Jumps to other places than the entry's target.
         (
+            "a jump to another place than the entry's target",
             b"\xe9\0\0\0\0\xc3",
             jump(F, F, 0),
-            KeyStart::Count(1),
+            on,
             b"text 401000 6\nsite 401000 jump e900000000 foreign\naccepted\n",
         ),
         (
+            "a short jump to another place",
             b"\xeb\0\xc3",
             jump(F, F, 0),
-            KeyStart::Count(0),
+            off,
             b"text 401000 3\nsite 401000 jump eb00 foreign\naccepted\n",
         ),
         (
+            "a jump on a condition",
             b"\x75\0\xc3",
             jump(F, F + 2, 0),
-            KeyStart::Count(0),
+            off,
             b"text 401000 3\nsite 401000 jump 7500 foreign\naccepted\n",
         ),
         // A site that isn't foreign would cut the load in which this one stands.
         (
+            "inside a load",
             b"\xb8\x01\xc9\0\0\xc3",
             jump(F + 1, F + 5, 0),
-            KeyStart::Count(0),
+            off,
             b"text 401000 6\nsite 401001 jump 01c9 foreign\naccepted\n",
         ),
     ];
-    for row in rows {
-        accepts_one(&rt, &row)?;
-    }
-    Ok(())
+    accepts_each(&rt, &rows)
 }
 
 #[test]
@@ -125,114 +117,112 @@ fn calls_are_written(rt: HostRuntime) -> Result<(), Fail> {
     let nop = b"text 401000 6\nsite 401000 call 0f1f440000\naccepted\n";
     let called = b"text 401000 6\nsite 401000 call e800000000\naccepted\n";
     let rows: [Row<'_>; 8] = [
-        (NOP, call(F, 0), NONE, nop),
-        (NOP, call(F, 0), to_return, called),
-        (CALL, call(F, 0), NONE, nop),
-        (far, call(F, 0), to_return, called),
-        (far, call(F, 0), NONE, nop),
+        ("no function", NOP, call(F, 0), NO_FUNCTION, nop),
+        ("a function", NOP, call(F, 0), to_return, called),
+        ("a call and no function", CALL, call(F, 0), NO_FUNCTION, nop),
+        ("a far call", far, call(F, 0), to_return, called),
         (
+            "a far call and no function",
+            far,
+            call(F, 0),
+            NO_FUNCTION,
+            nop,
+        ),
+        (
+            "a load",
             LOAD,
             call(F, 0),
             to_return,
             b"text 401000 6\nsite 401000 call b801000000 foreign\naccepted\n",
         ),
         (
+            "a jump",
             b"\xe9\0\0\0\0\xc3",
             call(F, 0),
             to_return,
             b"text 401000 6\nsite 401000 call e900000000 foreign\naccepted\n",
         ),
         (
+            "a return",
             b"\xc3\xcc\xcc\xcc\xcc\xc3",
             call(F, 0),
             to_return,
             b"text 401000 6\nsite 401000 call c3cccccccc foreign\naccepted\n",
         ),
     ];
-    for row in rows {
-        accepts_one(&rt, &row)?;
-    }
-    Ok(())
+    accepts_each(&rt, &rows)
 }
 
 #[test]
 fn tail_calls_are_written(rt: HostRuntime) -> Result<(), Fail> {
     // A return, and a jump out of the text.
     let far: &[u8] = b"\xc3\xe9\x78\x56\x34\x12";
+    let to_return = KeyStart::Func(F);
     let returns = b"text 401000 6\nsite 401001 tail c3cccccccc\naccepted\n";
     let jumps = b"text 401000 6\nsite 401001 tail e9faffffff\naccepted\n";
     let rows: [Row<'_>; 6] = [
-        (far, tail(F + 1, 0), NONE, returns),
-        (far, tail(F + 1, 0), KeyStart::Func(F), jumps),
+        ("no function", far, tail(F + 1, 0), NO_FUNCTION, returns),
+        ("a function", far, tail(F + 1, 0), to_return, jumps),
         (
+            "a return and a function",
             b"\xc3\xc3\xcc\xcc\xcc\xcc",
             tail(F + 1, 0),
-            KeyStart::Func(F),
+            to_return,
             jumps,
         ),
         (
+            "a return before NOPs",
             b"\xc3\x90\x90\x90\x90\xc3",
             tail(F, 0),
-            NONE,
+            NO_FUNCTION,
             b"text 401000 6\nsite 401000 tail c390909090 foreign\naccepted\n",
         ),
         (
+            "a call",
             CALL,
             tail(F, 0),
-            NONE,
+            NO_FUNCTION,
             b"text 401000 6\nsite 401000 tail e800000000 foreign\naccepted\n",
         ),
         (
+            "a NOP",
             NOP,
             tail(F, 0),
-            NONE,
+            NO_FUNCTION,
             b"text 401000 6\nsite 401000 tail 0f1f440000 foreign\naccepted\n",
         ),
     ];
-    for row in rows {
-        accepts_one(&rt, &row)?;
-    }
-    Ok(())
+    accepts_each(&rt, &rows)
 }
 
 #[test]
 fn traces_are_written(rt: HostRuntime) -> Result<(), Fail> {
-    let rows: [(&[u8], u64, &[u8]); 5] = [
+    let nop = b"text 401000 6\nsite 401000 trace 0f1f440000\naccepted\n";
+    let rows: [(&str, &[u8], u64, &[u8]); 5] = [
+        ("a NOP", NOP, F, nop),
+        ("a call", CALL, F, nop),
+        ("a far call", b"\xe8\xff\xff\xff\x7f\xc3", F, nop),
         (
-            NOP,
-            F,
-            b"text 401000 6\nsite 401000 trace 0f1f440000\naccepted\n",
-        ),
-        (
-            CALL,
-            F,
-            b"text 401000 6\nsite 401000 trace 0f1f440000\naccepted\n",
-        ),
-        (
-            b"\xe8\xff\xff\xff\x7f\xc3",
-            F,
-            b"text 401000 6\nsite 401000 trace 0f1f440000\naccepted\n",
-        ),
-        (
+            "a load",
             LOAD,
             F,
             b"text 401000 6\nsite 401000 trace b801000000 foreign\naccepted\n",
         ),
-        // An ENDBR64 stands at the function's begin.
         (
+            "after an ENDBR64",
             b"\xf3\x0f\x1e\xfa\x0f\x1fD\0\0\xc3",
             F + 4,
             b"text 401000 10\nsite 401004 trace 0f1f440000\naccepted\n",
         ),
     ];
-    for (text, at, printed) in rows {
+    for (name, text, at, printed) in rows {
         let small = Small {
             text,
             sites: &[PlanSite::Trace { at }],
-            keys: &[],
             functions: &[(b"ftrace_caller", F)],
+            ..RETURN
         };
-        accepts(&rt, &small, printed)?;
+        accepts(&rt, name, &small, &[], printed)?;
     }
     Ok(())
 }
@@ -247,7 +237,7 @@ fn sites_are_shown_ascending(rt: HostRuntime) -> Result<(), Fail> {
             jump(F + 2, F, 0),
             jump(F, F + 2, 0),
         ],
-        keys: &[(b"k", KeyStart::Count(1)), (b"ck", KeyStart::Func(0))],
+        keys: &[(b"k", KeyStart::Count(1)), (b"ck", NO_FUNCTION)],
         functions: &[(b"ftrace_caller", F + 14)],
     };
     let printed = b"text 401000 15\n\
@@ -256,7 +246,7 @@ fn sites_are_shown_ascending(rt: HostRuntime) -> Result<(), Fail> {
         site 401004 call 0f1f440000\n\
         site 401009 trace 0f1f440000\n\
         accepted\n";
-    accepts(&rt, &small, printed)
+    accepts(&rt, "four sites", &small, &[], printed)
 }
 
 #[test]
@@ -265,13 +255,24 @@ fn short_jumps_reach_so_far(rt: HostRuntime) -> Result<(), Fail> {
     let mut ahead = Vec::from_slice(alloc, b"f\x90")?;
     ahead.extend_from_slice(&vec![in alloc; 0x90; 128]?)?;
     ahead.push(0xc3)?;
-    let printed = b"text 401000 131\nsite 401000 jump eb7f\naccepted\n";
-    let row: Row<'_> = (&ahead, jump(F, F + 129, 0), KeyStart::Count(1), printed);
-    accepts_one(&rt, &row)?;
-
     let mut back = vec![in alloc; 0x90; 126]?;
     back.extend_from_slice(b"f\x90\xc3")?;
-    let printed = b"text 401000 129\nsite 40107e jump eb80\naccepted\n";
-    let row: Row<'_> = (&back, jump(F + 126, F, 0), KeyStart::Count(1), printed);
-    accepts_one(&rt, &row)
+    let on = KeyStart::Count(1);
+    let rows: [Row<'_>; 2] = [
+        (
+            "ahead",
+            &ahead,
+            jump(F, F + 129, 0),
+            on,
+            b"text 401000 131\nsite 401000 jump eb7f\naccepted\n",
+        ),
+        (
+            "back",
+            &back,
+            jump(F + 126, F, 0),
+            on,
+            b"text 401000 129\nsite 40107e jump eb80\naccepted\n",
+        ),
+    ];
+    accepts_each(&rt, &rows)
 }

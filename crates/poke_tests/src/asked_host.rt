@@ -1,12 +1,15 @@
-//! A host for tests that keeps the names that it was asked for.
+//! A host that keeps the names that it was asked for, and the names that each command asks.
 ghost use Rattle.std.specs.Prelude.{◌≡◌};
 
+use crate::frame::words;
 use poke_base::{AskedBy, Host, MemoryHost, ReadFail, WriteFail};
+use poke_tool::textpoke;
 use std::alloc::Global;
+use std::test::Fail;
 
 /// A host in memory, and the names that its calls were handed, in order.
 #[derive(Drop)]
-pub struct AskedHost {
+struct AskedHost {
     alloc: Global,
     host: MemoryHost,
     asked: Vec<(String, AskedBy)>,
@@ -14,7 +17,7 @@ pub struct AskedHost {
 
 impl AskedHost {
     /// A host with no file that was asked for nothing.
-    pub fn new(alloc: Global) -> Self {
+    fn new(alloc: Global) -> Self {
         AskedHost {
             alloc,
             host: MemoryHost::new(alloc),
@@ -23,7 +26,7 @@ impl AskedHost {
     }
 
     /// The names that were asked for, each with the call that it was handed to.
-    pub fn asked(&self) -> &[(String, AskedBy)] {
+    fn asked(&self) -> &[(String, AskedBy)] {
         &self.asked
     }
 
@@ -63,4 +66,24 @@ impl Host for AskedHost {
     fn complain(&mut self, piece: &[u8]) -> Result<(), WriteFail> {
         self.host.complain(piece)
     }
+}
+
+#[test]
+fn the_one_name_is_asked(rt: HostRuntime) -> Result<(), Fail> {
+    let rows: [(&[&str], &str, AskedBy); 4] = [
+        (&["plan", "p"], "p", AskedBy::Read),
+        (&["show", "m"], "m", AskedBy::Read),
+        (&["check", "m"], "m", AskedBy::Read),
+        (&["make", "10", "m"], "m", AskedBy::Make),
+    ];
+    let alloc = rt.alloc();
+    for (list, name, by) in rows {
+        let mut host = AskedHost::new(alloc);
+        let _ = textpoke(alloc, &words(alloc, list)?, &mut host);
+        let asked = host.asked();
+        assert_eq!(rt; asked.len(), 1, "{name}");
+        assert_eq!(rt; asked[0].0.as_str(), name);
+        assert_eq!(rt; asked[0].1, by, "{name}");
+    }
+    Ok(())
 }

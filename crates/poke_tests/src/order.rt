@@ -1,14 +1,13 @@
 //! Modules that could be refused for more than one reason: the first in the order is reported.
 
-use crate::modules::{Place, RETURN, Small, call, change, file, full, jump, plan, tail};
-use crate::refusal_tests::{refuses, refuses_changed, refuses_file};
+use crate::frame::{refuses, refuses_file};
+use crate::modules::{
+    F, NO_FUNCTION, Place, RETURN, SWITCH, Small, call, change, file, file_of, full, jump, tail,
+};
 use elf_build::{KeyStart, PlanSite};
 use std::alloc::Global;
 use std::process::Abort;
 use std::test::Fail;
-
-/// Where the text stands.
-const F: u64 = 0x40_1000;
 
 #[test]
 fn sections_come_before_tables(rt: HostRuntime) -> Result<(), Fail> {
@@ -17,14 +16,14 @@ fn sections_come_before_tables(rt: HostRuntime) -> Result<(), Fail> {
     let jumps = (Place::Header(2, 32), 1);
     let calls = (Place::Header(3, 32), 9);
     let traces = (Place::Header(4, 32), 0x11);
-    let rows: [(&[(Place, u8)], &[u8]); 4] = [
-        (&[no_bytes, other_text, jumps], b"TextCount 2"),
-        (&[no_bytes, jumps, calls, traces], b"TextSize 1"),
-        (&[jumps, calls, traces], b"Table jump 1"),
-        (&[calls, traces], b"Table call 9"),
+    let rows: [(&str, &[(Place, u8)], &[u8]); 4] = [
+        ("count", &[no_bytes, other_text, jumps], b"TextCount 2"),
+        ("size", &[no_bytes, jumps, calls, traces], b"TextSize 1"),
+        ("jumps", &[jumps, calls, traces], b"Table jump 1"),
+        ("calls", &[calls, traces], b"Table call 9"),
     ];
-    for (edits, why) in rows {
-        refuses_changed(&rt, &RETURN, edits, why)?;
+    for (name, edits, why) in rows {
+        refuses(&rt, name, &RETURN, edits, why)?;
     }
     Ok(())
 }
@@ -33,32 +32,35 @@ fn sections_come_before_tables(rt: HostRuntime) -> Result<(), Fail> {
 fn tables_come_before_their_count(rt: HostRuntime) -> Result<(), Fail> {
     let one_more = (Place::Header(4, 32), 8);
     let one_more_and_a_byte = (Place::Header(4, 32), 9);
-    let rows: [(&[(Place, u8)], &[u8]); 3] = [
-        (&[one_more, (Place::Header(2, 32), 1)], b"Table jump 1"),
-        (&[one_more_and_a_byte], b"Table trace 2009"),
+    let rows: [(&str, &[(Place, u8)], &[u8]); 3] = [
+        (
+            "jumps",
+            &[one_more, (Place::Header(2, 32), 1)],
+            b"Table jump 1",
+        ),
+        ("traces", &[one_more_and_a_byte], b"Table trace 2009"),
         // The last entry, of the address 0, is outside the text.
-        (&[one_more], b"SiteCount 401"),
+        ("count", &[one_more], b"SiteCount 401"),
     ];
     let alloc = rt.alloc();
-    let module = file(alloc, &full(alloc)?)?;
-    for (edits, why) in rows {
+    let module = file_of(alloc, &full(alloc)?)?;
+    for (name, edits, why) in rows {
         let mut bytes = Vec::from_slice(alloc, &module)?;
         change(&mut bytes, edits);
-        refuses_file(&rt, &bytes, why)?;
+        refuses_file(&rt, name, &bytes, why)?;
     }
     Ok(())
 }
 
 #[test]
-fn places_come_before_lengths(rt: HostRuntime) -> Result<(), Fail> {
+fn places_lengths_and_overlaps_have_an_order(rt: HostRuntime) -> Result<(), Fail> {
     // No jump has one byte, but the call, whose last byte is missing, comes first.
     let short_and_outside = Small {
         text: b"\xc3\x0f\x1fD\0",
         sites: &[jump(F, F, 0), call(F + 1, 1)],
-        keys: &[(b"k", KeyStart::Count(0)), (b"ck", KeyStart::Func(0))],
+        keys: &[(b"k", KeyStart::Count(0)), (b"ck", NO_FUNCTION)],
         functions: &[],
     };
-    refuses(&rt, &short_and_outside, b"SiteOutside 401001")?;
     // The first in the order of the tables: calls come before traces.
     let calls_and_traces = Small {
         text: b"\x0f\x1fD\0\0",
@@ -67,63 +69,76 @@ fn places_come_before_lengths(rt: HostRuntime) -> Result<(), Fail> {
             call(F + 3, 0),
             tail(F + 2, 0),
         ],
-        keys: &[(b"ck", KeyStart::Func(0))],
+        keys: &[(b"ck", NO_FUNCTION)],
         functions: &[],
     };
-    refuses(&rt, &calls_and_traces, b"SiteOutside 401003")
-}
-
-#[test]
-fn lengths_come_before_overlaps(rt: HostRuntime) -> Result<(), Fail> {
-    let keys: [(&[u8], KeyStart); 1] = [(b"k", KeyStart::Count(0))];
     let twice = Small {
         text: b"\xc3",
         sites: &[jump(F, F, 0), jump(F, F, 0)],
-        keys: &keys,
-        functions: &[],
+        ..SWITCH
     };
-    refuses(&rt, &twice, b"SiteLength 401000")?;
     // The first in the order of the table.
     let descending = Small {
         text: b"\x90\x90\xc3",
         sites: &[jump(F + 1, F, 0), jump(F, F, 0)],
-        keys: &keys,
-        functions: &[],
+        ..SWITCH
     };
-    refuses(&rt, &descending, b"SiteLength 401001")
+    let rows: [(&str, Small<'_>, &[u8]); 4] = [
+        (
+            "short and outside",
+            short_and_outside,
+            b"SiteOutside 401001",
+        ),
+        ("calls and traces", calls_and_traces, b"SiteOutside 401003"),
+        ("short and twice", twice, b"SiteLength 401000"),
+        ("descending", descending, b"SiteLength 401001"),
+    ];
+    for (name, small, why) in rows {
+        refuses(&rt, name, &small, &[], why)?;
+    }
+    Ok(())
 }
 
 #[test]
-fn overlaps_come_before_keys(rt: HostRuntime) -> Result<(), Fail> {
+fn overlaps_and_keys_have_an_order(rt: HostRuntime) -> Result<(), Fail> {
     let twice = Small {
-        text: b"f\x90\xc3",
         sites: &[jump(F, F + 2, 0), jump(F, F + 2, 0)],
-        keys: &[(b"k", KeyStart::Count(0))],
-        functions: &[],
+        ..SWITCH
     };
-    // The first entry's key is four bytes further on.
-    let further = [(Place::File(0x58), 0xfc)];
-    refuses_changed(&rt, &twice, &further, b"SiteOverlap 401000")
-}
-
-#[test]
-fn keys_come_before_their_states(rt: HostRuntime) -> Result<(), Fail> {
     let two_keys = Small {
         text: b"f\x90f\x90\xc3",
         sites: &[jump(F, F + 4, 0), jump(F + 2, F + 4, 1)],
         keys: &[(b"k", KeyStart::Count(0)), (b"k2", KeyStart::Count(0))],
         functions: &[],
     };
+    // The first entry's key is four bytes further on.
+    let further = (Place::File(0x58), 0xfc);
     let first_negative = (Place::File(0x73), 0x80);
     let second_negative = (Place::File(0x83), 0x80);
     let second_further = (Place::File(0x68), 0xfc);
-    let rows: [(&[(Place, u8)], &[u8]); 3] = [
-        (&[first_negative, second_further], b"KeyOutside 451014"),
-        (&[first_negative, second_negative], b"KeyState 451000"),
-        (&[second_negative], b"KeyState 451010"),
+    let rows: [(&str, Small<'_>, &[(Place, u8)], &[u8]); 4] = [
+        ("overlap", twice, &[further], b"SiteOverlap 401000"),
+        (
+            "key",
+            two_keys,
+            &[first_negative, second_further],
+            b"KeyOutside 451014",
+        ),
+        (
+            "first state",
+            two_keys,
+            &[first_negative, second_negative],
+            b"KeyState 451000",
+        ),
+        (
+            "second state",
+            two_keys,
+            &[second_negative],
+            b"KeyState 451010",
+        ),
     ];
-    for (edits, why) in rows {
-        refuses_changed(&rt, &two_keys, edits, why)?;
+    for (name, small, edits, why) in rows {
+        refuses(&rt, name, &small, edits, why)?;
     }
     Ok(())
 }
@@ -140,9 +155,9 @@ fn states_come_before_reach(rt: HostRuntime) -> Result<(), Fail> {
         keys: &[(b"k", KeyStart::Count(0))],
         functions: &[],
     };
-    refuses(&rt, &far, b"NoReach 401000")?;
+    refuses(&rt, "reach", &far, &[], b"NoReach 401000")?;
     let negative = [(Place::File(0xe3), 0x80)];
-    refuses_changed(&rt, &far, &negative, b"KeyState 451000")
+    refuses(&rt, "state", &far, &negative, b"KeyState 451000")
 }
 
 /// A text of a traced NOP, two bytes, a jump's NOP, 128 NOPs and a last byte.
@@ -155,37 +170,37 @@ fn long_text(alloc: Global, plain: &[u8], last: u8) -> Result<Vec<u8>, Fail> {
     Ok(text)
 }
 
-/// Asserts that `check` refuses such a text, a jump of which leads to an address, and says why; a
-/// function has a name.
+/// Asserts that `check` refuses such a text, whose jump leads to this target, and says why; a function has
+/// this name.
 fn refuses_long<R: Abort + AllocGlobal>(
     rt: &R,
     text: &[u8],
     target: u64,
-    name: &[u8],
+    function: &[u8],
     why: &[u8],
 ) -> Result<(), Fail> {
     let small = Small {
         text,
         sites: &[PlanSite::Trace { at: F }, jump(F + 7, target, 0)],
         keys: &[(b"k", KeyStart::Count(0))],
-        functions: &[(name, F + 9)],
+        functions: &[(function, F + 9)],
     };
-    refuses(rt, &small, why)
+    refuses(rt, "a long text", &small, &[], why)
 }
 
 #[test]
 fn reach_tracer_bytes_targets_and_end(rt: HostRuntime) -> Result<(), Fail> {
     let alloc = rt.alloc();
-    // A jump into the traced NOP, and no instruction at the end.
-    let text = long_text(alloc, b"\xeb\xfa", b'H')?;
+    // A jump into the traced NOP, and no instruction at the end, or a NOP.
+    let cut = long_text(alloc, b"\xeb\xfa", b'H')?;
+    let astray = long_text(alloc, b"\xeb\xfa", 0x90)?;
+    let falling = long_text(alloc, b"f\x90", 0x90)?;
     let tracer = b"ftrace_caller";
-    refuses_long(&rt, &text, F + 137, b"f", b"NoReach 401007")?;
-    refuses_long(&rt, &text, F + 136, b"f", b"TracerMissing 401000")?;
-    refuses_long(&rt, &text, F + 136, tracer, b"Undecoded 401089")?;
-    let text = long_text(alloc, b"\xeb\xfa", 0x90)?;
-    refuses_long(&rt, &text, F + 136, tracer, b"BadTarget 401005 401001")?;
-    let text = long_text(alloc, b"f\x90", 0x90)?;
-    refuses_long(&rt, &text, F + 136, tracer, b"EndFalls 401089")
+    refuses_long(&rt, &cut, F + 137, b"f", b"NoReach 401007")?;
+    refuses_long(&rt, &cut, F + 136, b"f", b"TracerMissing 401000")?;
+    refuses_long(&rt, &cut, F + 136, tracer, b"Undecoded 401089")?;
+    refuses_long(&rt, &astray, F + 136, tracer, b"BadTarget 401005 401001")?;
+    refuses_long(&rt, &falling, F + 136, tracer, b"EndFalls 401089")
 }
 
 /// Where a module leads: a plain jump by its displacement, a switch, a call's key and a function.
@@ -211,7 +226,7 @@ fn leading(alloc: Global, leads: Leads) -> Result<Vec<u8>, Fail> {
         ],
         functions: &[(b"f", F), (b"g", leads.function), (b"h", F + 2)],
     };
-    file(alloc, &plan(alloc, &small)?)
+    file(alloc, &small)
 }
 
 #[test]
@@ -230,17 +245,16 @@ fn targets_have_an_order(rt: HostRuntime) -> Result<(), Fail> {
     };
     let key = Leads { key: F, ..site };
     let function = Leads { function: F, ..key };
-    let rows: [(Leads, &[u8]); 5] = [
-        (astray, b"BadTarget 40100c 401003"),
-        (plain, b"BadTarget 401005 401001"),
-        (site, b"BadTarget 451010 401003"),
+    let rows: [(&str, Leads, &[u8]); 5] = [
+        ("a plain jump", astray, b"BadTarget 40100c 401003"),
+        ("a site", plain, b"BadTarget 401005 401001"),
+        ("a key", site, b"BadTarget 451010 401003"),
         // Functions in the order of the symbols.
-        (key, b"BadTarget 401004 401004"),
-        (function, b"BadTarget 401002 401002"),
+        ("a function", key, b"BadTarget 401004 401004"),
+        ("the next function", function, b"BadTarget 401002 401002"),
     ];
-    let alloc = rt.alloc();
-    for (leads, why) in rows {
-        refuses_file(&rt, &leading(alloc, leads)?, why)?;
+    for (name, leads, why) in rows {
+        refuses_file(&rt, name, &leading(rt.alloc(), leads)?, why)?;
     }
     Ok(())
 }
@@ -250,19 +264,14 @@ fn the_first_target_counts(rt: HostRuntime) -> Result<(), Fail> {
     // Two jumps into the load that follows them.
     let plain = Small {
         text: b"\xeb\x03\xeb\x02\xb8\x01\0\0\0\xc3",
-        sites: &[],
-        keys: &[],
-        functions: &[],
+        ..RETURN
     };
-    refuses(&rt, &plain, b"BadTarget 401000 401005")?;
     // Sites and keys ascend, whatever the order of the entries.
     let sites = Small {
         text: b"f\x90f\x90\xb8\x01\0\0\0\xc3",
         sites: &[jump(F + 2, F + 5, 0), jump(F, F + 6, 0)],
-        keys: &[(b"k", KeyStart::Count(0))],
-        functions: &[],
+        ..SWITCH
     };
-    refuses(&rt, &sites, b"BadTarget 401000 401006")?;
     let keys = Small {
         text: b"\x0f\x1fD\0\0\x0f\x1fD\0\0\xc3",
         sites: &[call(F, 1), call(F + 5, 0)],
@@ -272,5 +281,13 @@ fn the_first_target_counts(rt: HostRuntime) -> Result<(), Fail> {
         ],
         functions: &[],
     };
-    refuses(&rt, &keys, b"BadTarget 451000 401001")
+    let rows: [(&str, Small<'_>, &[u8]); 3] = [
+        ("plain jumps", plain, b"BadTarget 401000 401005"),
+        ("sites", sites, b"BadTarget 401000 401006"),
+        ("keys", keys, b"BadTarget 451000 401001"),
+    ];
+    for (name, small, why) in rows {
+        refuses(&rt, name, &small, &[], why)?;
+    }
+    Ok(())
 }

@@ -1,0 +1,37 @@
+//! Words that are no command: nothing is read, made or printed.
+
+use crate::frame::run;
+use crate::modules::{TWO_SWITCHES, file};
+use crate::plans::NOP_TO_JMP;
+use std::test::Fail;
+
+#[test]
+fn other_words_are_refused(rt: HostRuntime) -> Result<(), Fail> {
+    let rows: [(&str, &[&str]); 16] = [
+        ("no words", &[]),
+        ("no plan", &["plan"]),
+        ("two plans", &["plan", "p", "q"]),
+        ("a capital in plan", &["Plan", "p"]),
+        ("no module to show", &["show"]),
+        ("two modules to show", &["show", "m", "m"]),
+        ("no module to check", &["check"]),
+        ("two modules to check", &["check", "m", "m"]),
+        ("a capital in check", &["Check", "m"]),
+        ("no number", &["make"]),
+        ("no module to make", &["make", "10"]),
+        ("two modules to make", &["make", "10", "m", "n"]),
+        ("too few blocks", &["make", "9", "m"]),
+        ("too many blocks", &["make", "1001", "m"]),
+        ("no digit", &["make", "x", "m"]),
+        ("a sign", &["make", "-10", "m"]),
+    ];
+    let module = file(rt.alloc(), &TWO_SWITCHES)?;
+    let files: [(&str, &[u8]); 2] = [("p", NOP_TO_JMP), ("m", &module)];
+    for (name, words) in rows {
+        let reported = b"textpoke: bad words\n";
+        let host = run(&rt, &(name, words, &files, 1, b"", reported))?;
+        assert_eq!(rt; host.file("m"), Some(module.as_slice()), "{name}");
+        assert_eq!(rt; host.file("n"), None, "{name}");
+    }
+    Ok(())
+}

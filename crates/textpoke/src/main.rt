@@ -1,0 +1,15 @@
+//! `textpoke`: shows and proves how x86-64 instructions are changed while processors run them.
+#![tactic(auto)]
+
+mod program;
+#[cfg(test)]
+mod tests;
+
+use crate::program::run;
+use poke_base::RealHost;
+use std::env;
+use std::process::ExitCode;
+
+fn main(rt: HostRuntime) -> ExitCode {
+    run(rt.alloc(), env::args(&rt), &mut RealHost::new(&rt))
+}
