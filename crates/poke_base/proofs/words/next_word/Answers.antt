@@ -21,10 +21,10 @@ returns-clause-words c =
     words-some c.args.line.now text c.split_at-2.result.0.now c.split_at-2.result.1.now
     (c.split_at.ensures.back ∙ ap (λ n. drop n c.args.line.now) c.blanks_len.ensures)
     (grind (arith, common_steps))
-    (c.split_at-2.ensures.prefix ∙ ap (λ n. take n text) c.word_len.ensures)
+    (c.split_at-2.ensures.front ∙ ap (λ n. take n text) c.word_len.ensures)
     (c.split_at-2.ensures.back ∙ ap (λ n. drop n text) c.word_len.ensures)
 
 pub returns-clause-some : goal.returns-clause-some
 returns-clause-some c =
     let found = first_len-some c.args.line.now c.split_at.result.1.now (c.split_at.ensures.back ∙ ap (λ n. drop n c.args.line.now) c.blanks_len.ensures) (grind (arith, common_steps)) in
-    omega (arith, found, c.word_len.ensures, c.split_at-2.ensures.prefix_len)
+    omega (arith, found, c.word_len.ensures, c.split_at-2.ensures.front_len)

@@ -13,4 +13,4 @@ returns-then-end-gt1-clause-line c =
 
 pub returns-clause-line : goal.returns-clause-line
 returns-clause-line c =
-    only_line-one c.args.text.now c.split_at.result.0.now c.split_at.result.1.now c.line_len.result c.line_len.ensures c.split_at.ensures.prefix c.split_at.ensures.back c.if-end-gt1.false
+    only_line-one c.args.text.now c.split_at.result.0.now c.split_at.result.1.now c.line_len.result c.line_len.ensures c.split_at.ensures.front c.split_at.ensures.back c.if-end-gt1.false
