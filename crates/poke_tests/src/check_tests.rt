@@ -2,7 +2,7 @@
 
 use crate::modules::{Place, RETURN, Small, call, change, file, jump, plan};
 use crate::tests::words;
-use crate::top::textpoke;
+use poke_tool::textpoke;
 use elf_build::{KeyStart, PlanSite, generated, write};
 use poke_base::MemoryHost;
 use std::alloc::Global;

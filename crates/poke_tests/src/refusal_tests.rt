@@ -2,7 +2,7 @@
 
 use crate::modules::{Place, RETURN, Small, call, change, file, full, jump, plan, tail};
 use crate::tests::words;
-use crate::top::textpoke;
+use poke_tool::textpoke;
 use elf_build::{KeyStart, PlanSite};
 use poke_base::MemoryHost;
 use std::process::Abort;

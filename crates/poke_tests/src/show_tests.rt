@@ -1,6 +1,6 @@
 //! `show` over a host in memory.
 
-use crate::top::textpoke;
+use poke_tool::textpoke;
 use poke_base::MemoryHost;
 use std::alloc::Global;
 use std::test::Fail;

@@ -2,7 +2,7 @@
 
 use crate::asked_host::AskedHost;
 use crate::tests::words;
-use crate::top::textpoke;
+use poke_tool::textpoke;
 use elf_build::{generated, write};
 use poke_base::{AskedBy, MemoryHost};
 use std::alloc::Global;

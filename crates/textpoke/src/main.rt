@@ -1,52 +1,13 @@
 //! `textpoke`: shows and proves how x86-64 instructions are changed while processors run them.
 #![tactic(auto)]
 
-#[cfg(test)]
-mod asked_host;
-mod check;
-#[cfg(test)]
-mod check_tests;
-mod command;
-mod entry_lines;
-mod fault;
-#[cfg(test)]
-mod image_tests;
-pub mod laws;
-mod make;
-#[cfg(test)]
-mod make_tests;
-mod module_fault;
-mod module_file;
-#[cfg(test)]
-mod modules;
-#[cfg(test)]
-mod order_tests;
-mod plan;
-mod plan_line;
-mod print_table;
-#[cfg(test)]
-mod refusal_tests;
-mod show;
-#[cfg(test)]
-mod show_tests;
-#[cfg(test)]
-mod site_tests;
-#[cfg(test)]
-mod tests;
-#[cfg(test)]
-mod text_tests;
-mod top;
-#[cfg(test)]
-mod written_tests;
-
-use crate::fault::Fault;
-use crate::top::textpoke;
 use poke_base::{Host, RealHost};
+use poke_tool::{Fault, textpoke};
 use std::alloc::Global;
 use std::io::ErrorKind;
 use std::process::ExitCode;
 use std::rt::Env;
-use std::{env, io};
+use std::env;
 
 fn main(rt: HostRuntime) -> ExitCode {
     let words = words(&rt, rt.alloc());

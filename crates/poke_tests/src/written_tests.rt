@@ -1,7 +1,7 @@
 //! Modules that are written of plans: the sizes of their files, and what `show` prints of them.
 
 use crate::modules::{Small, file, jump, plan, traced};
-use crate::top::textpoke;
+use poke_tool::textpoke;
 use elf_build::{KeyStart, PlanSite};
 use poke_base::MemoryHost;
 use std::alloc::Global;
