@@ -1,7 +1,9 @@
+pub mod Asking
+pub mod Ways
+pub mod Sayings
 pub mod Endings
 pub mod PlanLines
 pub mod Plans
-pub mod FileRuns
 pub mod TableLines
 pub mod WrittenFields
 pub mod WrittenStanding
@@ -15,6 +17,4 @@ pub mod WrittenSymbolRows
 pub mod WrittenKeyBytes
 pub mod WrittenPassing
 pub mod WrittenReadBack
-pub mod MakeRuns
 pub mod ItemLines
-pub mod CheckRuns
