@@ -10,9 +10,12 @@ use Rattle.poke_base.proofs.Outsides.{Rose-later, Tells-no_more, Tells-same, Tel
 use Rattle.poke_tool.specs.declared.fault.Fault.{Fault}
 use Rattle.poke_tool.specs.declared.fault.Fault.TheVariants.{Words, Refused, Read, Write, Memory}
 use Rattle.poke_tool.specs.declared.fault.Refusal.{Refusal}
+use Rattle.poke_tool.specs.declared.fault.Refusal.TheVariants.{Module as ModuleRefusal, Plan as PlanRefusal}
+use Rattle.module_image.specs.Module.{Module}
+use Rattle.poke_tool.specs.Check.{RefusesAsModule}
 use Rattle.poke_tool.specs.Command.{Row, file_words}
 use Rattle.poke_tool.specs.Runs.{AsksFirst, Asks, Does, IsRead, MakesNothing, MakesPrefix, ReadsInput, ReadsNone}
-use Rattle.poke_tool.specs.Saying.{Holds, Saying, Says, says_file, says_text, refuses, told_before}
+use Rattle.poke_tool.specs.Saying.{Holds, ModuleSays, Saying, Says, says_file, says_text, refuses, told_before}
 use Rattle.poke_tool.proofs.Asking.{Asks-appends, Asks-makes, Asks-more, Asks-prints, Asks-same, HasRead, MakesNothing-trans, added_later, has_read-more, has_read-none, held_before, made_later, made_with, still_told}
 use Rattle.poke_tool.proofs.Sayings.{asks_first}
 
@@ -232,3 +235,8 @@ one_prints row name old middle new Is Refuses value text result only reads print
     (one_read row name old middle Is Refuses (Ok value) only reads)
     prints
     (says reads.input.0 (held_before old middle new name reads.input.0 reads.leaves.nothing.files (still_told middle.files new.files prints.files) reads.input.1) reads.input.2)
+
+-- what is refused as a module is said to be
+pub module_refused : (P : Module → Saying → Type 0) (bytes : List ℕ) (why : Refusal) → RefusesAsModule bytes why → ModuleSays P bytes (refuses 1 why)
+module_refused P bytes (ModuleRefusal why) refused = inl (why, refused, refl)
+module_refused P bytes (PlanRefusal why) refused = absurd refused
