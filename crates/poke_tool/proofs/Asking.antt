@@ -3,8 +3,7 @@ use Rattle.std.proofs.Common.{◌≡◌, ◌≤◌, ℕ, ◌+◌, List, [], ◌�
 use Rattle.std.specs.FinMap.{insert}
 use Rattle.poke_base.specs.declared.host.AskedBy.{AskedBy}
 use Rattle.poke_base.specs.declared.host.AskedBy.TheVariants.{Read as AskedRead, Make as AskedMake}
-use Rattle.poke_base.specs.declared.host.ReadFail.{ReadFail}
-use Rattle.poke_base.specs.Host.{Files, Outside, Tells, Prints, MakesFile, Appends, ReadsFile, appended, with_appended, with_file, with_more}
+use Rattle.poke_base.specs.Host.{Files, Outside, Tells, Prints, MakesFile, Appends, appended, with_appended, with_file, with_more}
 use Rattle.poke_base.proofs.Files.{get-inserted, insert-inserted}
 use Rattle.poke_base.proofs.Outsides.{Tells-more, Tells-no_more, Tells-same, Tells-trans}
 use Rattle.poke_tool.specs.Command.{Row, file_words}
@@ -43,37 +42,27 @@ pub Asks-same : (p : List (List ℕ × AskedBy)) (old middle new : Outside) → 
 Asks-same p old middle new h k =
     subst (λ (words : List (List ℕ × AskedBy)). Asks words old new) (append-nil p) (Asks-more p [] old middle new h k)
 
--- what was read, printed, made and appended
-pub Asks-reads : {T : Type 0} (old new : Outside) (name out : List ℕ) (limit : ℕ) (result : Result T ReadFail) → ReadsFile old new name limit out result → Asks ((name, AskedRead) ∷ []) old new
-Asks-reads old new name out limit result h = record {
-  asked = h.asked;
-  complained = h.complained;
-  complain_faults = h.complain_faults;
-  read_faults = h.read_faults;
-  write_faults = let same = h.write_faults in omega arith;
+-- nothing was asked for by a call that asks for nothing
+pub Asks-none : (old new : Outside) → Tells old.asked new.asked → Tells old.complained new.complained → new.complain_faults ≡ old.complain_faults → new.read_faults ≡ old.read_faults → old.write_faults ≤ new.write_faults → Asks [] old new
+Asks-none old new asked complained complain_faults read_faults write_faults = record {
+  asked = Tells-trans _ old.asked new.asked (Tells-no_more old.asked) asked;
+  complained = complained;
+  complain_faults = complain_faults;
+  read_faults = omega arith;
+  write_faults = write_faults;
 }
 
+-- a print and an append ask for nothing
 pub Asks-prints : {T E : Type 0} (old new : Outside) (text : List ℕ) (result : Result T E) → Prints old new text result → Asks [] old new
-Asks-prints old new text result h = record {
-  asked = Tells-trans _ old.asked new.asked (Tells-no_more old.asked) h.asked;
-  complained = h.complained;
-  complain_faults = h.complain_faults;
-  read_faults = let same = h.read_faults in omega arith;
-  write_faults = h.write_faults;
-}
+Asks-prints old new text result h = Asks-none old new h.asked h.complained h.complain_faults h.read_faults h.write_faults
 
+pub Asks-appends : {T E : Type 0} (old new : Outside) (piece : List ℕ) (result : Result T E) → Appends old new piece result → Asks [] old new
+Asks-appends old new piece result h = Asks-none old new h.asked h.complained h.complain_faults h.read_faults h.write_faults
+
+-- the name of a file that is made was asked for
 pub Asks-makes : {T E : Type 0} (old new : Outside) (name : List ℕ) (result : Result T E) → MakesFile old new name result → Asks ((name, AskedMake) ∷ []) old new
 Asks-makes old new name result h = record {
   asked = h.asked;
-  complained = h.complained;
-  complain_faults = h.complain_faults;
-  read_faults = let same = h.read_faults in omega arith;
-  write_faults = h.write_faults;
-}
-
-pub Asks-appends : {T E : Type 0} (old new : Outside) (piece : List ℕ) (result : Result T E) → Appends old new piece result → Asks [] old new
-Asks-appends old new piece result h = record {
-  asked = Tells-trans _ old.asked new.asked (Tells-no_more old.asked) h.asked;
   complained = h.complained;
   complain_faults = h.complain_faults;
   read_faults = let same = h.read_faults in omega arith;
@@ -93,11 +82,6 @@ LeavesAll-trans old middle new h k = record {
   printed = Tells-trans old.printed middle.printed new.printed h.printed k.printed;
   nothing = MakesNothing-trans old middle new h.nothing k.nothing;
 }
-
--- a read leaves all
-pub LeavesAll-reads : {T : Type 0} (old new : Outside) (name out : List ℕ) (limit : ℕ) (result : Result T ReadFail) → ReadsFile old new name limit out result → LeavesAll old new
-LeavesAll-reads old new name out limit result h =
-    record { printed = h.printed; nothing = record { files = h.files; making = h.making } }
 
 -- what is added to an empty file is all that it holds
 appended_to_empty : (files : Files) (name piece : List ℕ) → appended (insert files name []) name piece ≡ insert files name piece
@@ -131,13 +115,7 @@ pub record HasRead (row : Row) (names : ℕ) (old now : Outside) : Type 0 where
 -- it has read nothing
 pub has_read-none : (row : Row) (old : Outside) → HasRead row 0 old old
 has_read-none row old = record {
-  asks = record {
-    asked = Tells-no_more old.asked;
-    complained = Tells-same old.complained;
-    complain_faults = refl;
-    read_faults = omega arith;
-    write_faults = omega arith;
-  };
+  asks = Asks-none old old (Tells-same old.asked) (Tells-same old.complained) refl refl (omega arith);
   leaves = record { printed = Tells-same old.printed; nothing = record { files = Tells-same old.files; making = refl } };
   reads = λ none. refl;
 }

@@ -16,7 +16,7 @@ use Rattle.poke_tool.specs.Runs.{Concludes, Cuts, Does, DoesNamed, DoesPart, Doe
 use Rattle.poke_tool.specs.Saying.{IsModuleOf, MakeSays, Saying, Says, refused_status, saying_status, says_file, told_before, where_told}
 use Rattle.poke_tool.specs.Endings.{AsksInOrder, EndsAloud, EndsMaking, EndsRefused, EndsSaying, Reported}
 use Rattle.poke_tool.proofs.Asking.{LeavesAll-trans, MakesNothing-trans, added_later}
-use Rattle.poke_tool.proofs.Sayings.{begins_alike, plain_refused, says_alike, says_less, says_plain}
+use Rattle.poke_tool.proofs.Sayings.{begins_alike, says_alike, says_less, says_plain}
 
 -- what a report leaves, or nothing
 record Settles (middle new : Outside) : Type 0 where
@@ -251,7 +251,7 @@ command_leaves : (row : Row) (names : ℕ) (old new : Outside) (result : Result 
 command_leaves row names old new (Ok done) not_0 not_6 does = absurd (not_0 refl)
 command_leaves row names old new (Err Words) not_0 not_6 does = absurd does
 command_leaves row names old new (Err (Refused why)) not_0 not_6 does =
-    silent_leaves does.saying old new (plain_refused does.saying why (says_plain row (told_before old new) does.saying does.says) does.refused_is) does.does
+    silent_leaves does.saying old new (says_plain row (told_before old new) does.saying why does.says does.refused_is) does.does
 command_leaves row names old new (Err Read) not_0 not_6 does = does.leaves
 command_leaves row names old new (Err Write) not_0 not_6 does = absurd (not_6 refl)
 command_leaves row names old new (Err Memory) not_0 not_6 does = does.leaves

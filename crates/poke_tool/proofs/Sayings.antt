@@ -5,11 +5,11 @@ use Rattle.insn_forms.specs.declared.forms.Change.{Change}
 use Rattle.insn_forms.specs.declared.forms.Form.{Form}
 use Rattle.insn_forms.specs.Spelling.{spell}
 use Rattle.elf_module.specs.declared.refused.ElfRefused.{ElfRefused}
-use Rattle.elf_module.specs.declared.refused.ElfRefused.TheVariants.{Short, Magic, Class, Data, Version, Machine, Kind, Relocatable, Headers, Section, Names, Symbols}
+use Rattle.elf_module.specs.declared.refused.ElfRefused.TheVariants.{Short}
 use Rattle.elf_module.specs.Refusals.{order}
 use Rattle.site_tables.specs.declared.entries.TableKind.TheVariants.{Jump, Call, Trace}
 use Rattle.module_image.specs.declared.refused.Refused.{Refused}
-use Rattle.module_image.specs.declared.refused.Refused.TheVariants.{TextCount, TextSize, Table, SiteCount, SiteOutside, SiteLength, SiteOverlap, KeyOutside, KeyState, NoReach as OutOfReach, TracerMissing, Undecoded, BadTarget, EndFalls, NoMemory}
+use Rattle.module_image.specs.declared.refused.Refused.TheVariants.{Table, NoMemory}
 use Rattle.module_image.specs.Refusals.{IsRefusal as IsImageRefusal, Passes as ImagePasses}
 use Rattle.module_image.specs.Module.{Module}
 use Rattle.poke_tool.specs.declared.fault.Refusal.{Refusal}
@@ -26,7 +26,7 @@ use Rattle.poke_tool.specs.Fault.{refusal_status}
 use Rattle.poke_tool.specs.Module.{ModuleShows}
 use Rattle.poke_tool.specs.PlanLine.{PokeLine, IsWished}
 use Rattle.poke_tool.specs.Runs.{SaysSomething}
-use Rattle.poke_tool.specs.Saying.{CheckSays, FileSays, Holds, ModuleSays, PlanSays, Saying, ShowSays, Says, plan_saying, saying_status, show_saying}
+use Rattle.poke_tool.specs.Saying.{CheckSays, FileSays, Holds, ModuleSays, PlanSays, Saying, ShowSays, Says, plan_saying, refuses, saying_status, says_file, says_text, show_saying}
 
 -- no text both says a change and is refused
 not_both : (text : List ℕ) (change : Change) (why : PlanRefused) → PokeLine text (Ok change) → PokeLine text (Err why) → ⊥
@@ -43,17 +43,7 @@ not_both text change Old (fits, v, said, wished) (fits_too, w, said_too, reaches
 -- no refusal stands after the last place of the order
 order_below : (why : ElfRefused) → order why < 13
 order_below (Short n) = lit< tt
-order_below (Magic n) = lit< tt
-order_below (Class n) = lit< tt
-order_below (Data n) = lit< tt
-order_below (Version n) = lit< tt
-order_below (Machine n) = lit< tt
-order_below (Kind n) = lit< tt
-order_below (Relocatable n) = lit< tt
-order_below (Headers n) = lit< tt
-order_below (Section n) = lit< tt
-order_below (Names n) = lit< tt
-order_below (Symbols n) = lit< tt
+order_below why = lit< tt
 
 -- no module file is both shown and refused
 not_both_shown : (file text : List ℕ) (why : ModuleRefused) → ModuleShows file (Ok text) → ModuleShows file (Err why) → ⊥
@@ -63,38 +53,12 @@ not_both_shown file text (Elf why) shows refused =
 not_both_shown file text (Image (Table Jump n)) shows refused = shows.2 refused.2
 not_both_shown file text (Image (Table Call n)) shows refused = shows.3 refused.2.1
 not_both_shown file text (Image (Table Trace n)) shows refused = shows.4 refused.2.2
-not_both_shown file text (Image (TextCount n)) shows refused = refused
-not_both_shown file text (Image (TextSize n)) shows refused = refused
-not_both_shown file text (Image (SiteCount n)) shows refused = refused
-not_both_shown file text (Image (SiteOutside at)) shows refused = refused
-not_both_shown file text (Image (SiteLength at)) shows refused = refused
-not_both_shown file text (Image (SiteOverlap at)) shows refused = refused
-not_both_shown file text (Image (KeyOutside at)) shows refused = refused
-not_both_shown file text (Image (KeyState at)) shows refused = refused
-not_both_shown file text (Image (OutOfReach at)) shows refused = refused
-not_both_shown file text (Image (TracerMissing at)) shows refused = refused
-not_both_shown file text (Image (Undecoded at)) shows refused = refused
-not_both_shown file text (Image (BadTarget from to)) shows refused = refused
-not_both_shown file text (Image (EndFalls at)) shows refused = refused
-not_both_shown file text (Image NoMemory) shows refused = refused
+not_both_shown file text (Image why) shows refused = refused
 
 -- a module that no condition refuses isn't refused
 not_refused : (file : List ℕ) (why : Refused) → ImagePasses (elf_of file) 15 → IsImageRefusal (elf_of file) why → ⊥
-not_refused file (TextCount n) passes refused = passes.none (TextCount n) (lit< tt) refused.holds
-not_refused file (TextSize n) passes refused = passes.none (TextSize n) (lit< tt) refused.holds
-not_refused file (Table kind n) passes refused = passes.none (Table kind n) (lit< tt) refused.holds
-not_refused file (SiteCount n) passes refused = passes.none (SiteCount n) (lit< tt) refused.holds
-not_refused file (SiteOutside at) passes refused = passes.none (SiteOutside at) (lit< tt) refused.holds
-not_refused file (SiteLength at) passes refused = passes.none (SiteLength at) (lit< tt) refused.holds
-not_refused file (SiteOverlap at) passes refused = passes.none (SiteOverlap at) (lit< tt) refused.holds
-not_refused file (KeyOutside at) passes refused = passes.none (KeyOutside at) (lit< tt) refused.holds
-not_refused file (KeyState at) passes refused = passes.none (KeyState at) (lit< tt) refused.holds
-not_refused file (OutOfReach at) passes refused = passes.none (OutOfReach at) (lit< tt) refused.holds
-not_refused file (TracerMissing at) passes refused = passes.none (TracerMissing at) (lit< tt) refused.holds
-not_refused file (Undecoded at) passes refused = passes.none (Undecoded at) (lit< tt) refused.holds
-not_refused file (BadTarget from to) passes refused = passes.none (BadTarget from to) (lit< tt) refused.holds
-not_refused file (EndFalls at) passes refused = passes.none (EndFalls at) (lit< tt) refused.holds
 not_refused file NoMemory passes refused = refused.holds
+not_refused file why passes refused = passes.none why (lit< tt) refused.holds
 
 -- no module file is both accepted and refused
 not_both_accepted : (file : List ℕ) (m : Module) (why : ModuleRefused) → Accepts file m → RefusesModule file why → ⊥
@@ -161,69 +125,55 @@ says_alike (command.Check file) told s t some says says_too =
     check_alike both.bytes s t both.first both.second
 says_alike (command.Make n file) told s t some says says_too = alike s t _ _ says.2 says_too.2 refl
 
--- a saying of a command that isn't refused, or says nothing before it is
-abbrev pub IsPlain : Saying → Type 0
-IsPlain s = (s.refused ≡ None) ⊎ ((s.text ≡ []) × (s.makes ≡ None))
+-- a saying of a text, of a file, or of a refusal alone, of a command of one file
+abbrev pub IsForm : Saying → Type 0
+IsForm s = ((text : List ℕ) × (s ≡ says_text 1 text)) ⊎ ((name : List ℕ) × (bytes : List ℕ) × (s ≡ says_file 1 name bytes)) ⊎ ((why : Refusal) × (s ≡ refuses 1 why))
 
--- what is equal to a plain saying is plain
-plain : (s t : Saying) → s ≡ t → IsPlain t → IsPlain s
-plain s t is h = subst (λ (x : Saying). IsPlain x) (sym is) h
+plan_form : (s : Saying) (r : Result Change PlanRefused) → s ≡ plan_saying r → IsForm s
+plan_form s (Ok change) is = inl (_, is)
+plan_form s (Err why) is = inr (inr (_, is))
 
-plan_plain : (r : Result Change PlanRefused) → IsPlain (plan_saying r)
-plan_plain (Ok change) = inl refl
-plan_plain (Err why) = inr (refl, refl)
+show_form : (s : Saying) (r : Result (List ℕ) ModuleRefused) → s ≡ show_saying r → IsForm s
+show_form s (Ok text) is = inl (_, is)
+show_form s (Err why) is = inr (inr (_, is))
 
-show_plain : (r : Result (List ℕ) ModuleRefused) → IsPlain (show_saying r)
-show_plain (Ok text) = inl refl
-show_plain (Err why) = inr (refl, refl)
+check_form : (bytes : List ℕ) (s : Saying) → ModuleSays CheckSays bytes s → IsForm s
+check_form bytes s (inl (why, refused, is)) = inr (inr (_, is))
+check_form bytes s (inr (m, accepts, is)) = inl (_, is)
 
-check_plain : (bytes : List ℕ) (s : Saying) → ModuleSays CheckSays bytes s → IsPlain s
-check_plain bytes s (inl (why, refused, is)) = plain s _ is (inr (refl, refl))
-check_plain bytes s (inr (m, accepts, says)) = plain s _ says (inl refl)
+-- all commands are such today
+says_form : (row : Row) (told : Option Files) (s : Saying) → Says row told s → IsForm s
+says_form (command.Plan file) told s says = plan_form s says.2.0 says.2.2
+says_form (command.Show file) told s says = show_form s says.2.0 says.2.2
+says_form (command.Check file) told s says = check_form says.0 s says.2
+says_form (command.Make n file) told s says = inr (inl (_, says.0, says.2))
 
 -- a command that is refused says nothing before
-pub says_plain : (row : Row) (told : Option Files) (s : Saying) → Says row told s → IsPlain s
-says_plain (command.Plan file) told s says = plain s _ says.2.2 (plan_plain says.2.0)
-says_plain (command.Show file) told s says = plain s _ says.2.2 (show_plain says.2.0)
-says_plain (command.Check file) told s says = check_plain says.0 s says.2
-says_plain (command.Make n file) told s says = plain s _ says.2 (inl refl)
+pub says_plain : (row : Row) (told : Option Files) (s : Saying) (why : Refusal) → Says row told s → s.refused ≡ Some why → (s.text ≡ []) × (s.makes ≡ None)
+says_plain row told s why says refused = by_form (says_form row told s says)
+  where
+    by_form : IsForm s → (s.text ≡ []) × (s.makes ≡ None)
+    by_form (inl (text, is)) = let none = ap (λ (x : Saying). x.refused) is in absurd (cc)
+    by_form (inr (inl (name, bytes, is))) = let none = ap (λ (x : Saying). x.refused) is in absurd (cc)
+    by_form (inr (inr (other, is))) = (ap (λ (x : Saying). x.text) is, ap (λ (x : Saying). x.makes) is)
 
--- so a plain saying that is refused says nothing
-pub plain_refused : (s : Saying) (why : Refusal) → IsPlain s → s.refused ≡ Some why → (s.text ≡ []) × (s.makes ≡ None)
-plain_refused s why (inl none) refused = absurd (cc)
-plain_refused s why (inr silent) refused = silent
+-- every command asks for its first file
+pub asks_first : (row : Row) (told : Option Files) (s : Saying) → Says row told s → 1 ≤ s.asks
+asks_first row told s says = by_form (says_form row told s says)
+  where
+    by_form : IsForm s → 1 ≤ s.asks
+    by_form (inl (text, is)) = let one = ap (λ (x : Saying). x.asks) is in omega arith
+    by_form (inr (inl (name, bytes, is))) = let one = ap (λ (x : Saying). x.asks) is in omega arith
+    by_form (inr (inr (why, is))) = let one = ap (λ (x : Saying). x.asks) is in omega arith
 
 -- it says nothing where it is refused, and then what two of them say is alike
 pub begins_alike : (row : Row) (told : Option Files) (s t : Saying) (why : Refusal) → IsSome told → Says row told s → Says row told t → s.refused ≡ Some why → SaysSomething s → SaysSomething t
 begins_alike row told s t why some says says_too refused something =
-    absurd (nothing (plain_refused s why (says_plain row told s says) refused) something)
+    absurd (nothing (says_plain row told s why says refused) something)
   where
     nothing : (s.text ≡ []) × (s.makes ≡ None) → SaysSomething s → ⊥
     nothing silent (inl text) = text silent.0
     nothing silent (inr makes) = makes silent.1
-
-plan_asks : (r : Result Change PlanRefused) → (plan_saying r).asks ≡ 1
-plan_asks (Ok change) = refl
-plan_asks (Err why) = refl
-
-show_asks : (r : Result (List ℕ) ModuleRefused) → (show_saying r).asks ≡ 1
-show_asks (Ok text) = refl
-show_asks (Err why) = refl
-
-check_asks : (bytes : List ℕ) (s : Saying) → ModuleSays CheckSays bytes s → s.asks ≡ 1
-check_asks bytes s (inl (why, refused, is)) = ap (λ (x : Saying). x.asks) is
-check_asks bytes s (inr (m, accepts, says)) = ap (λ (x : Saying). x.asks) says
-
--- one name is some name
-some_asked : (s : Saying) → s.asks ≡ 1 → 1 ≤ s.asks
-some_asked s one = omega arith
-
--- every command asks for its first file
-pub asks_first : (row : Row) (told : Option Files) (s : Saying) → Says row told s → 1 ≤ s.asks
-asks_first (command.Plan file) told s says = some_asked s (ap (λ (x : Saying). x.asks) says.2.2 ∙ plan_asks says.2.0)
-asks_first (command.Show file) told s says = some_asked s (ap (λ (x : Saying). x.asks) says.2.2 ∙ show_asks says.2.0)
-asks_first (command.Check file) told s says = some_asked s (check_asks says.0 s says.2)
-asks_first (command.Make n file) told s says = some_asked s (ap (λ (x : Saying). x.asks) says.2)
 
 -- what is said of files is said where fewer are told
 pub says_less : (row : Row) (told less : Option Files) (s : Saying) → Tells told less → Says row told s → Says row less s

@@ -1,11 +1,10 @@
-use Rattle.std.proofs.Common.{◌≡◌, ◌<◌, ℕ, List, [], length, Option, Some, None, Ok, Err, unwrap_or, refl, subst, arith}
+use Rattle.std.proofs.Common.{◌≡◌, ◌<◌, ℕ, List, [], length, Option, Some, None, Ok, Err, unwrap_or, refl, subst, arith, rules}
 use Rattle.std.specs.FinMap.{get}
 use Rattle.poke_base.specs.declared.host.ReadFail.TheVariants.{TooLong}
 use Rattle.poke_base.specs.Text.{IsPrefix}
 use Rattle.poke_base.specs.Host.{Files, Outside, ReadsFile}
 use Rattle.insn_forms.proofs.Spellings.{prefix-length}
 use Rattle.poke_tool.specs.Saying.{Holds}
-use Rattle.poke_tool.proofs.Asking.{Asks-reads, LeavesAll-reads}
 use Rattle.poke_tool.proofs.input.read_input.Goals as goal
 
 -- a text that begins with a text that isn't empty isn't missing
@@ -37,8 +36,8 @@ long_file old new name out limit (Some files) is reads =
 
 pub returns-in-Ok : goal.returns-in-Ok
 returns-in-Ok g c = record {
-  asks = Asks-reads _ _ c.args.name.now c.read_file.new.out.items c.args.limit (Ok tt) c.in-Ok.ensures;
-  leaves = LeavesAll-reads _ _ c.args.name.now c.read_file.new.out.items c.args.limit (Ok tt) c.in-Ok.ensures;
+  asks = search rules;
+  leaves = search rules;
   input = (c.read_file.new.out.items, λ files told. (c.in-Ok.ensures.contents files told).whole, (refl, c.in-Ok.ensures.fits));
 }
 
@@ -47,7 +46,7 @@ returns-in-Err-TooLong g c =
     let reads = rw c.in-Err-TooLong.field-0-is at c.in-Err-TooLong.ensures in
     let long = long_file _ _ c.args.name.now c.read_file.new.out.items c.args.limit _ refl reads in
     record {
-      asks = Asks-reads _ _ c.args.name.now c.read_file.new.out.items c.args.limit (Err TooLong) reads;
-      leaves = LeavesAll-reads _ _ c.args.name.now c.read_file.new.out.items c.args.limit (Err TooLong) reads;
+      asks = search rules;
+      leaves = search rules;
       input = (long.text, long.holds, (refl, long.long));
     }
