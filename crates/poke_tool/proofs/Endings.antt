@@ -12,8 +12,8 @@ use Rattle.poke_tool.specs.declared.fault.Refusal.TheVariants.{Module, Plan}
 use Rattle.poke_tool.specs.Command as command
 use Rattle.poke_tool.specs.Command.{Row, file_words}
 use Rattle.poke_tool.specs.Fault.{status_of, complaint_of, refusal_status}
-use Rattle.poke_tool.specs.Runs.{Concludes, Cuts, Does, DoesNamed, DoesPart, DoesSaying, Ends, FailsReading, FailsWriting, IsRead, LacksMemory, LeavesAll, MadePart, MadeWhole, MakesNothing, MakesPrefix, RunsRow, SaysSomething}
-use Rattle.poke_tool.specs.Saying.{IsModuleOf, MakeSays, Saying, Says, refused_status, saying_status, says_file, told_before, where_told}
+use Rattle.poke_tool.specs.Runs.{Concludes, Cuts, DoesNamed, DoesSaying, Ends, FailsReading, FailsWriting, IsRead, LeavesAll, MadePart, MadeWhole, MakesNothing, MakesPrefix, RunsRow, SaysSomething}
+use Rattle.poke_tool.specs.Saying.{IsModuleOf, MakeSays, Saying, Says, refused_status, saying_status, told_before, where_told}
 use Rattle.poke_tool.specs.Endings.{AsksInOrder, EndsAloud, EndsMaking, EndsRefused, EndsSaying, Reported}
 use Rattle.poke_tool.proofs.Asking.{LeavesAll-trans, MakesNothing-trans, added_later}
 use Rattle.poke_tool.proofs.Sayings.{begins_alike, says_alike, says_less, says_plain}
@@ -161,6 +161,7 @@ ended row old new status runs =
     is_by : (result : Result (Unit {0}) Fault) → Ends runs.middle new result status → status ≡ answer_status result
     is_by (Ok done) ends = ends.0
     is_by (Err fault) ends = ends.0
+
     reports_by : (result : Result (Unit {0}) Fault) → Ends runs.middle new result status → Reports old new status result
     reports_by (Ok done) ends = subst (λ (o : Outside). Tells old.complained o.complained) (sym ends.1) runs.does.asks.complained
     reports_by (Err fault) (is, (sent, reports)) = record {
@@ -320,6 +321,7 @@ refuses_said row names old new s why (Err Write) some says refused does =
         let same = says_alike row (told_before old new) does.saying s some does.says says in
         absurd (let low = refusal_low why in let none_is = ap refused_status is in let why_is = ap refused_status refused in omega arith)
     refused_other (Some other) is = (other, is)
+
     begun : (other : Refusal) × (does.saying.refused ≡ Some other) → SaysSomething s
     begun (other, is) =
         begins_alike row (told_before old new) does.saying s other some does.says says is

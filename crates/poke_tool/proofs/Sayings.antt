@@ -13,7 +13,6 @@ use Rattle.module_image.specs.declared.refused.Refused.TheVariants.{Table, NoMem
 use Rattle.module_image.specs.Refusals.{IsRefusal as IsImageRefusal, Passes as ImagePasses}
 use Rattle.module_image.specs.Module.{Module}
 use Rattle.poke_tool.specs.declared.fault.Refusal.{Refusal}
-use Rattle.poke_tool.specs.declared.fault.Refusal.TheVariants.{Module as ModuleRefusal, Plan as PlanRefusal}
 use Rattle.poke_tool.specs.declared.module_fault.ModuleRefused.{ModuleRefused}
 use Rattle.poke_tool.specs.declared.module_fault.ModuleRefused.TheVariants.{TooLong as LongModule, Elf, Image}
 use Rattle.poke_tool.specs.declared.plan_line.PlanRefused.{PlanRefused}
@@ -22,7 +21,6 @@ use Rattle.poke_tool.specs.declared.plan_line.Wish.{Wish}
 use Rattle.poke_tool.specs.Check.{Accepts, RefusesModule, elf_of}
 use Rattle.poke_tool.specs.Command as command
 use Rattle.poke_tool.specs.Command.{Row}
-use Rattle.poke_tool.specs.Fault.{refusal_status}
 use Rattle.poke_tool.specs.Module.{ModuleShows}
 use Rattle.poke_tool.specs.PlanLine.{PokeLine, IsWished}
 use Rattle.poke_tool.specs.Runs.{SaysSomething}

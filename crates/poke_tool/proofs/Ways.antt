@@ -1,11 +1,11 @@
 -- The ways through a command, of any row: a prefix of its file words was read, and then it is refused, prints what its
 -- files say, or makes the file that they say.
-use Rattle.std.proofs.Common.{◌≡◌, ◌≤◌, ◌⊎◌, ℕ, List, [], ◌∷◌, ◌++◌, length, take, Option, Some, None, IsSome, Result, Ok, Err, IsErrAnd, OnOk, refl, sym, ap, ◌∙◌, subst, inl, inr, lit≤, arith}
+use Rattle.std.proofs.Common.{◌≡◌, ◌≤◌, ◌⊎◌, ℕ, List, [], ◌∷◌, ◌++◌, length, take, IsSome, Result, Ok, Err, IsErrAnd, refl, sym, ap, ◌∙◌, subst, inl, inr, lit≤, arith}
 use Rattle.std.proofs.lemmas.Result.{err_from_is_err_and}
 use Rattle.poke_base.specs.declared.host.AskedBy.{AskedBy}
 use Rattle.poke_base.specs.declared.host.AskedBy.TheVariants.{Read as AskedRead, Make as AskedMake}
 use Rattle.poke_base.specs.declared.host.WriteFail.{WriteFail}
-use Rattle.poke_base.specs.Host.{Files, Outside, Tells, Prints, MakesFile, Appends, Rose, with_file}
+use Rattle.poke_base.specs.Host.{Outside, Tells, Prints, MakesFile, Appends, Rose, with_file}
 use Rattle.poke_base.proofs.Outsides.{Rose-later, Tells-no_more, Tells-same, Tells-trans}
 use Rattle.poke_tool.specs.declared.fault.Fault.{Fault}
 use Rattle.poke_tool.specs.declared.fault.Fault.TheVariants.{Words, Refused, Read, Write, Memory}
@@ -14,7 +14,7 @@ use Rattle.poke_tool.specs.declared.fault.Refusal.TheVariants.{Module as ModuleR
 use Rattle.module_image.specs.Module.{Module}
 use Rattle.poke_tool.specs.Check.{RefusesAsModule}
 use Rattle.poke_tool.specs.Command.{Row, file_words}
-use Rattle.poke_tool.specs.Runs.{AsksFirst, Asks, Does, IsRead, MakesNothing, MakesPrefix, ReadsInput, ReadsNone}
+use Rattle.poke_tool.specs.Runs.{AsksFirst, Asks, Does, IsRead, MakesPrefix, ReadsInput, ReadsNone}
 use Rattle.poke_tool.specs.Saying.{Holds, ModuleSays, Saying, Says, says_file, says_text, refuses, told_before}
 use Rattle.poke_tool.proofs.Asking.{Asks-appends, Asks-makes, Asks-more, Asks-prints, Asks-same, HasRead, MakesNothing-trans, added_later, has_read-more, has_read-none, held_before, made_later, made_with, still_told}
 use Rattle.poke_tool.proofs.Sayings.{asks_first}

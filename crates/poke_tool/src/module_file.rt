@@ -19,7 +19,13 @@ use std::alloc::Global;
 pub fn read_module<H: Host>(alloc: Global, name: &str, host: &mut H) -> Result<Image, Fault>
     ensures { ReadsInput (H.outside host.old) (H.outside host.new) name.now Accepts RefusesAsModule result }
 {
-    let bytes = read_input(alloc, name, MODULE_LIMIT, Refusal::Module(ModuleRefused::TooLong), host)?;
+    let bytes = read_input(
+        alloc,
+        name,
+        MODULE_LIMIT,
+        Refusal::Module(ModuleRefused::TooLong),
+        host,
+    )?;
     accept_file(alloc, &bytes)
 }
 

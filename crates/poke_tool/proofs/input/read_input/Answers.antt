@@ -1,4 +1,4 @@
-use Rattle.std.proofs.Common.{◌≡◌, ◌<◌, ℕ, List, [], length, Option, Some, None, Ok, Err, unwrap_or, refl, subst, arith, rules}
+use Rattle.std.proofs.Common.{◌≡◌, ◌<◌, ℕ, List, [], length, Option, Some, None, Err, unwrap_or, refl, subst, arith, rules}
 use Rattle.std.specs.FinMap.{get}
 use Rattle.poke_base.specs.declared.host.ReadFail.TheVariants.{TooLong}
 use Rattle.poke_base.specs.Text.{IsPrefix}
