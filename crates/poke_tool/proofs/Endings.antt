@@ -1,167 +1,270 @@
--- The sentences on how the program ends follow from `Runs`, by cases on what the command answered.
-use Rattle.std.proofs.Common.{◌≡◌, ◌≢◌, ◌↔◌, ℕ, List, [], take, IsSome, Option, Some, None, Result, Ok, Err, IfErr, OnErr, refl, sym, ap, ◌∙◌, subst, inl, inr, lit<, arith, ◌<◌, ◌⊎◌}
-use Rattle.poke_base.specs.Host.{Files, Outside, Rose, Tells, Complains, Adds, with_file, with_more}
-use Rattle.insn_forms.specs.declared.forms.Change.{Change}
-use Rattle.poke_base.proofs.Outsides.{Tells-no_more, Tells-trans}
+-- The sentences on how the program ends follow from `Runs`, once for all commands, by what the command answered.
+use Rattle.std.proofs.Common.{◌≡◌, ◌≢◌, ◌↔◌, ◌≤◌, ℕ, List, [], ◌∷◌, ◌++◌, take, length, IsSome, Option, Some, None, Result, Ok, Err, OnErr, OnOk, refl, sym, ap, ◌∙◌, subst, inl, inr, lit≤, arith, append-nil, ◌⊎◌}
+use Rattle.poke_base.specs.declared.host.AskedBy.{AskedBy}
+use Rattle.poke_base.specs.declared.host.AskedBy.TheVariants.{Read as AskedRead, Make as AskedMake}
+use Rattle.poke_base.specs.Host.{Files, Outside, Rose, Tells, Adds, with_file, with_more}
+use Rattle.poke_base.specs.Text.{IsPrefix}
+use Rattle.poke_base.proofs.Outsides.{Tells-no_more, Tells-same, Tells-trans}
 use Rattle.poke_tool.specs.declared.fault.Fault.{Fault}
-use Rattle.poke_tool.specs.declared.fault.Fault.TheVariants.{Words, Module, Plan, Read, Write, Memory}
-use Rattle.poke_tool.specs.declared.plan_line.PlanRefused.{PlanRefused}
-use Rattle.elf_module.specs.declared.refused.ElfRefused.{ElfRefused}
-use Rattle.elf_module.specs.declared.refused.ElfRefused.TheVariants.{Short, Magic, Class, Data, Version, Machine, Kind, Relocatable, Headers, Section, Names, Symbols}
-use Rattle.elf_module.specs.Refusals.{order}
-use Rattle.site_tables.specs.declared.entries.TableKind.TheVariants.{Jump, Call, Trace}
-use Rattle.poke_tool.specs.declared.module_fault.ModuleRefused.{ModuleRefused}
-use Rattle.poke_tool.specs.declared.module_fault.ModuleRefused.TheVariants.{TooLong as LongModule, Elf, Image}
-use Rattle.module_image.specs.declared.refused.Refused.{Refused}
-use Rattle.module_image.specs.declared.refused.Refused.TheVariants.{TextCount, TextSize, Table, SiteCount, SiteOutside, SiteLength, SiteOverlap, KeyOutside, KeyState, NoReach as OutOfReach, TracerMissing, Undecoded, BadTarget, EndFalls, NoMemory}
-use Rattle.poke_tool.specs.Check.{ModuleChecks, elf_of}
-use Rattle.module_image.specs.Refusals.{IsRefusal as IsImageRefusal, Passes as ImagePasses}
-use Rattle.poke_tool.specs.Module.{ModuleShows}
+use Rattle.poke_tool.specs.declared.fault.Fault.TheVariants.{Words, Refused, Read, Write, Memory}
+use Rattle.poke_tool.specs.declared.fault.Refusal.{Refusal}
+use Rattle.poke_tool.specs.declared.fault.Refusal.TheVariants.{Module, Plan}
 use Rattle.poke_tool.specs.Command as command
-use Rattle.poke_tool.specs.Command.{Row, row_of, file_words}
-use Rattle.poke_tool.specs.Fault.{status_of, complaint_of}
-use Rattle.insn_forms.specs.declared.forms.Form.{Form}
-use Rattle.insn_forms.specs.Spelling.{spell}
-use Rattle.poke_tool.specs.declared.plan_line.PlanRefused.TheVariants.{TooLong, Line, NoReach, Old}
-use Rattle.poke_tool.specs.declared.plan_line.Wish.{Wish}
-use Rattle.poke_tool.specs.PlanLine.{PokeLine, IsWished}
-use Rattle.poke_tool.specs.Plan.{Holds}
-use Rattle.poke_tool.specs.Runs.{RunsRow, Ends, Does, DoesMake, Fails, HoldsModule, Keeps, LeavesAll, PrintsSaid, PrintsText, Says}
-use Rattle.poke_tool.specs.Endings.{AsksInOrder, Complained, EndsAloud, EndsMaking, EndsSaying}
+use Rattle.poke_tool.specs.Command.{Row, file_words}
+use Rattle.poke_tool.specs.Fault.{status_of, complaint_of, refusal_status}
+use Rattle.poke_tool.specs.Runs.{Concludes, Cuts, DoesNamed, DoesSaying, Ends, FailsReading, FailsWriting, IsRead, LeavesAll, MadePart, MadeWhole, MakesNothing, MakesPrefix, RunsRow, SaysSomething}
+use Rattle.poke_tool.specs.Saying.{IsModuleOf, MakeSays, Saying, Says, refused_status, saying_status, told_before, where_told}
+use Rattle.poke_tool.specs.Endings.{AsksInOrder, EndsAloud, EndsMaking, EndsRefused, EndsSaying, Reported}
+use Rattle.poke_tool.proofs.Asking.{LeavesAll-trans, MakesNothing-trans, added_later}
+use Rattle.poke_tool.proofs.Sayings.{begins_alike, says_alike, says_less, says_plain}
 
--- what is added to the middle is added to what was before
-more_later : {A : Type 0} (a b : Option (List A)) (more : List A) → Tells a b → Tells (with_more a more) (with_more b more)
-more_later a None more ab = record { told = λ x e. absurd (cc) }
-more_later a (Some ys) more ab = record { told = λ x e. ap (λ o. with_more o more) (ab.told ys refl) ∙ e }
+-- what a report leaves, or nothing
+record Settles (middle new : Outside) : Type 0 where
+  leaves : LeavesAll middle new
+  asked : Tells middle.asked new.asked
+  read_faults : new.read_faults ≡ middle.read_faults
+  write_faults : new.write_faults ≡ middle.write_faults
 
--- a text that was told in the middle, with a piece added after that
-added_later : {T E : Type 0} (a b c : Option (List ℕ)) (piece : List ℕ) (sent : Result T E) → Tells a b → Adds b c piece sent → Adds a c piece sent
-added_later a b c piece (Ok done) ab added = record { whole = Tells-trans _ _ c (more_later a b piece ab) added.whole; part = tt }
-added_later a b c piece (Err why) ab added = record {
+settles : (middle new : Outside) (result : Result (Unit {0}) Fault) (status : ℕ) → Ends middle new result status → Settles middle new
+settles middle new (Ok done) status ends =
+    subst (λ (o : Outside). Settles middle o) (sym ends.1)
+    (record {
+      leaves = record { printed = Tells-same middle.printed; nothing = record { files = Tells-same middle.files; making = refl } };
+      asked = Tells-same middle.asked;
+      read_faults = refl;
+      write_faults = refl;
+    })
+settles middle new (Err fault) status (is, (sent, reports)) = record {
+  leaves = record { printed = reports.printed; nothing = record { files = reports.files; making = reports.making } };
+  asked = reports.asked;
+  read_faults = reports.read_faults;
+  write_faults = reports.write_faults;
+}
+
+-- less is told after a report
+told_less : (before middle now : Option Files) → Tells middle now → Tells (where_told before middle) (where_told before now)
+told_less before middle None tells = record { told = λ x e. absurd (cc) }
+told_less before None (Some now) tells = record { told = λ x e. absurd (let none = tells.told now refl in cc) }
+told_less before (Some middle) (Some now) tells = record { told = λ x e. e }
+
+-- but where it is told it is the same
+told_same : (told less : Option Files) → IsSome less → Tells told less → told ≡ less
+told_same told None some tells = absurd (cc)
+told_same told (Some files) some tells = tells.told files refl
+
+-- what was made and printed before a report is made and printed after it
+whole_settled : (makes : Option (List ℕ × List ℕ)) (old middle new : Outside) → MakesNothing middle new → MadeWhole makes old middle → MadeWhole makes old new
+whole_settled None old middle new nothing made = MakesNothing-trans old middle new made nothing
+whole_settled (Some file) old middle new nothing made = Tells-trans _ middle.files new.files made nothing.files
+
+part_settled : (makes : Option (List ℕ × List ℕ)) (old middle new : Outside) → MakesNothing middle new → MadePart makes old middle → MadePart makes old new
+part_settled None old middle new nothing made = MakesNothing-trans old middle new made nothing
+part_settled (Some file) old middle new nothing made = record { part = made.part; prefix = made.prefix; files = files made.files }
+  where
+    files : Tells old.files middle.files ⊎ Tells (with_file old.files file.0 made.part) middle.files → Tells old.files new.files ⊎ Tells (with_file old.files file.0 made.part) new.files
+    files (inl same) = inl (Tells-trans old.files middle.files new.files same nothing.files)
+    files (inr made) = inr (Tells-trans _ middle.files new.files made nothing.files)
+
+-- what was cut before a report
+cuts_settled : (row : Row) (s : Saying) (old middle new : Outside) → LeavesAll middle new → Cuts row s old middle → Cuts row s old new
+cuts_settled row s old middle new leaves cuts = record {
+  printed = record {
+    part = cuts.printed.part;
+    prefix = cuts.printed.prefix;
+    printed = Tells-trans _ middle.printed new.printed cuts.printed.printed leaves.printed;
+  };
+  made = part_settled s.makes old middle new leaves.nothing cuts.made;
+}
+
+-- a command that was done or refused before a report
+concludes_settled : (row : Row) (names : ℕ) (old middle new : Outside) (refused : Option Refusal) → Settles middle new → Concludes row names old middle refused → Concludes row names old new refused
+concludes_settled row names old middle new refused h did = record {
+  saying = did.saying;
+  says = says_less row (told_before old middle) (told_before old new) did.saying (told_less old.files middle.files new.files h.leaves.nothing.files) did.says;
+  refused_is = did.refused_is;
+  asks = did.asks;
+  does = record {
+    printed = Tells-trans _ middle.printed new.printed did.does.printed h.leaves.printed;
+    made = whole_settled did.saying.makes old middle new h.leaves.nothing did.does.made;
+  };
+}
+
+-- what a command did before a report it did after it
+does_settled : (row : Row) (names : ℕ) (old middle new : Outside) (result : Result (Unit {0}) Fault) → Settles middle new → DoesNamed row names old middle result → DoesNamed row names old new result
+does_settled row names old middle new (Ok done) h does = concludes_settled row names old middle new None h does
+does_settled row names old middle new (Err (Refused why)) h does = concludes_settled row names old middle new (Some why) h does
+does_settled row names old middle new (Err Write) h does = record {
+  rose = subst (λ (n : ℕ). Rose old.write_faults n) (sym h.write_faults) does.rose;
+  saying = does.saying;
+  says = says_less row (told_before old middle) (told_before old new) does.saying (told_less old.files middle.files new.files h.leaves.nothing.files) does.says;
+  begins = does.begins;
+  asks = does.asks;
+  cuts = cuts_settled row does.saying old middle new h.leaves does.cuts;
+}
+does_settled row names old middle new (Err Read) h does = record {
+  rose = subst (λ (n : ℕ). Rose old.read_faults n) (sym h.read_faults) does.rose;
+  leaves = LeavesAll-trans old middle new does.leaves h.leaves;
+  is_read = does.is_read;
+  not_refused = λ s some says.
+      let same : told_before old middle ≡ told_before old new = told_same (told_before old middle) (told_before old new) some (told_less old.files middle.files new.files h.leaves.nothing.files) in
+      does.not_refused s (subst (λ (o : Option Files). IsSome o) (sym same) some) (subst (λ (o : Option Files). Says row o s) (sym same) says);
+}
+does_settled row names old middle new (Err Memory) h does = record { leaves = LeavesAll-trans old middle new does.leaves h.leaves; asks = does.asks }
+does_settled row names old middle new (Err Words) h does = does
+
+-- the status by the answer
+abbrev answer_status : Result (Unit {0}) Fault → ℕ
+answer_status (Ok done) = 0
+answer_status (Err fault) = status_of fault
+
+-- what is reported, by the answer
+abbrev Reports : Outside → Outside → ℕ → Result (Unit {0}) Fault → Type 0
+Reports old new status (Ok done) = Tells old.complained new.complained
+Reports old new status (Err fault) = Reported old new status fault
+
+-- what the program has done for a command when it ends
+record Ended (row : Row) (old new : Outside) (status : ℕ) : Type 0 where
+  result : Result (Unit {0}) Fault
+  is : status ≡ answer_status result
+  names : ℕ
+  asked : Tells (with_more old.asked (take names (file_words row))) new.asked
+  all : OnOk result (names ≡ length (file_words row))
+  does : DoesNamed row names old new result
+  reports : Reports old new status result
+
+-- a text with nothing added is the text
+more_none : (told : Option (List ℕ)) → with_more told [] ≡ told
+more_none None = refl
+more_none (Some text) = ap Some (append-nil text)
+
+-- what is added to what was told between
+added_between : {T E : Type 0} (a b c : Option (List ℕ)) (piece : List ℕ) (sent : Result T E) → Tells a b → Adds b c piece sent → Adds a c piece sent
+added_between a b c piece (Ok done) ab added = record { whole = added_later a b c piece ab added.whole; part = tt }
+added_between a b c piece (Err why) ab added = record {
   whole = tt;
-  part = (added.part.0, added.part.1, Tells-trans _ _ c (more_later a b added.part.0 ab) added.part.2);
+  part = (added.part.0, added.part.1, added_later a b c added.part.0 ab added.part.2);
 }
 
--- no fault has the status 0
-no_fault_is_0 : (fault : Fault) (status : ℕ) → status ≡ status_of fault → status ≡ 0 → ⊥
-no_fault_is_0 Words status is zero_is = omega arith
-no_fault_is_0 (Module why) status is zero_is = omega arith
-no_fault_is_0 (Plan why) status is zero_is = omega arith
-no_fault_is_0 Read status is zero_is = omega arith
-no_fault_is_0 Write status is zero_is = omega arith
-no_fault_is_0 Memory status is zero_is = omega arith
+ended : (row : Row) (old new : Outside) (status : ℕ) → RunsRow (Some row) old new status → Ended row old new status
+ended row old new status runs =
+    let h = settles runs.middle new runs.result status runs.ends in
+    record {
+      result = runs.result;
+      is = is_by runs.result runs.ends;
+      names = runs.does.names;
+      asked = Tells-trans _ runs.middle.asked new.asked runs.does.asks.asked h.asked;
+      all = runs.does.all;
+      does = does_settled row runs.does.names old runs.middle new runs.result h runs.does.does;
+      reports = reports_by runs.result runs.ends;
+    }
+  where
+    is_by : (result : Result (Unit {0}) Fault) → Ends runs.middle new result status → status ≡ answer_status result
+    is_by (Ok done) ends = ends.0
+    is_by (Err fault) ends = ends.0
 
--- the fault of a command is reported
-complained_fault : (row : Row) (old middle new : Outside) (fault : Fault) (status : ℕ) → Keeps row old middle (Err fault) → Ends middle new (Err fault) status → Complained old new status fault
-complained_fault row old middle new fault status keeps (is, (sent, complains)) = record {
-  status_is = is;
-  sent = sent;
-  added = added_later old.complained middle.complained new.complained (complaint_of fault) sent keeps.complained complains.complained;
-  lost = subst (λ (n : ℕ). OnErr sent (Rose n new.complain_faults)) keeps.complain_faults complains.failed;
+    reports_by : (result : Result (Unit {0}) Fault) → Ends runs.middle new result status → Reports old new status result
+    reports_by (Ok done) ends = subst (λ (o : Outside). Tells old.complained o.complained) (sym ends.1) runs.does.asks.complained
+    reports_by (Err fault) (is, (sent, reports)) = record {
+      status_is = is;
+      sent = sent;
+      added = added_between old.complained runs.middle.complained new.complained (complaint_of fault) sent runs.does.asks.complained reports.complained;
+      lost = subst (λ (n : ℕ). OnErr sent (Rose n new.complain_faults)) runs.does.asks.complain_faults reports.failed;
+    }
+
+-- the statuses of refused files stand between those of other ends
+refusal_low : (why : Refusal) → 2 ≤ refusal_status why
+refusal_low (Module why) = lit≤ tt
+refusal_low (Plan why) = lit≤ tt
+
+refusal_high : (why : Refusal) → refusal_status why ≤ 4
+refusal_high (Module why) = lit≤ tt
+refusal_high (Plan why) = lit≤ tt
+
+-- what a command did, by the status
+at_0 : (row : Row) (names : ℕ) (old new : Outside) (result : Result (Unit {0}) Fault) → answer_status result ≡ 0 → DoesNamed row names old new result → Concludes row names old new None
+at_0 row names old new (Ok done) is does = does
+at_0 row names old new (Err (Refused why)) is does = absurd (let low = refusal_low why in omega arith)
+at_0 row names old new result is does = absurd (omega arith)
+
+at_refused : (row : Row) (names : ℕ) (old new : Outside) (status : ℕ) (result : Result (Unit {0}) Fault) → answer_status result ≡ status → 2 ≤ status → status ≤ 4 → DoesNamed row names old new result → Reports old new status result → EndsRefused row old new status
+at_refused row names old new status (Err (Refused why)) is low high does reports = record {
+  saying = does.saying;
+  why = why;
+  says = does.says;
+  refused = does.refused_is;
+  does = does.does;
+  reported = reports;
 }
+at_refused row names old new status (Err Words) is low high does reports = absurd does
+at_refused row names old new status result is low high does reports = absurd (omega arith)
 
--- what every command keeps
-keeps_of : (row : Row) (old middle : Outside) (result : Result (Unit {0}) Fault) → Does row old middle result → Keeps row old middle result
-keeps_of (command.Plan file) old middle result does = does.keeps
-keeps_of (command.Show file) old middle result does = does.keeps
-keeps_of (command.Check file) old middle result does = does.keeps
-keeps_of (command.Make n file) old middle result does = does.keeps
+at_5 : (row : Row) (names : ℕ) (old new : Outside) (result : Result (Unit {0}) Fault) → answer_status result ≡ 5 → DoesNamed row names old new result → FailsReading row names old new
+at_5 row names old new (Err Read) is does = does
+at_5 row names old new result is does = absurd (omega (arith, refusal_low, refusal_high))
 
--- no command ends with status 1
-not_bad_words : (old middle new : Outside) (result : Result (Unit {0}) Fault) (status : ℕ) → IfErr result (Fails old middle) → Ends middle new result status → status ≢ 1
-not_bad_words old middle new (Ok done) status failed ends one = let is = ends.0 in omega arith
-not_bad_words old middle new (Err Words) status failed ends one = failed
-not_bad_words old middle new (Err (Module why)) status failed ends one = let is = ends.0 in omega arith
-not_bad_words old middle new (Err (Plan why)) status failed ends one = let is = ends.0 in omega arith
-not_bad_words old middle new (Err Read) status failed ends one = let is = ends.0 in omega arith
-not_bad_words old middle new (Err Write) status failed ends one = let is = ends.0 in omega arith
-not_bad_words old middle new (Err Memory) status failed ends one = let is = ends.0 in omega arith
+at_6 : (row : Row) (names : ℕ) (old new : Outside) (result : Result (Unit {0}) Fault) → answer_status result ≡ 6 → DoesNamed row names old new result → FailsWriting row names old new
+at_6 row names old new (Err Write) is does = does
+at_6 row names old new result is does = absurd (omega (arith, refusal_low, refusal_high))
+
+-- a command has another status than bad words
+not_1 : (row : Row) (names : ℕ) (old new : Outside) (result : Result (Unit {0}) Fault) → answer_status result ≡ 1 → DoesNamed row names old new result → ⊥
+not_1 row names old new (Err Words) is does = does
+not_1 row names old new result is does = omega (arith, refusal_low)
 
 -- status 1 comes exactly for words that are no command
 pub bad_words : (row : Option Row) (old new : Outside) (status : ℕ) → RunsRow row old new status → (status ≡ 1) ↔ (row ≡ None)
 bad_words None old new status runs = let ends = rw runs.does.1 at runs.ends in (λ one. refl, λ none. ends.0)
-bad_words (Some row) old new status runs = (
-  λ one. absurd (not_bad_words old runs.middle new runs.result status (keeps_of row old runs.middle runs.result runs.does).failed runs.ends one),
-  λ none. absurd (cc),
-)
-
--- a command ends with status 5 only where a read failed
-command_read_fault : (old middle new : Outside) (result : Result (Unit {0}) Fault) (status : ℕ) → IfErr result (Fails old middle) → Ends middle new result status → status ≡ 5 → Rose old.read_faults new.read_faults
-command_read_fault old middle new (Ok done) status failed ends five = let is = ends.0 in absurd (omega arith)
-command_read_fault old middle new (Err Words) status failed ends five = absurd failed
-command_read_fault old middle new (Err (Module why)) status failed ends five = let is = ends.0 in absurd (omega arith)
-command_read_fault old middle new (Err (Plan why)) status failed ends five = let is = ends.0 in absurd (omega arith)
-command_read_fault old middle new (Err Read) status failed (is, (sent, complains)) five =
-    subst (λ (n : ℕ). Rose old.read_faults n) (sym complains.read_faults) failed.0
-command_read_fault old middle new (Err Write) status failed ends five = let is = ends.0 in absurd (omega arith)
-command_read_fault old middle new (Err Memory) status failed ends five = let is = ends.0 in absurd (omega arith)
+bad_words (Some row) old new status runs =
+    let e = ended row old new status runs in
+    (λ one. absurd (not_1 row e.names old new e.result (sym e.is ∙ one) e.does), λ none. absurd (cc))
 
 -- status 5 comes only where a read failed
 pub read_fault : (row : Option Row) (old new : Outside) (status : ℕ) → RunsRow row old new status → status ≡ 5 → Rose old.read_faults new.read_faults
 read_fault None old new status runs five =
     let is = (rw runs.does.1 at runs.ends).0 in absurd (omega arith)
 read_fault (Some row) old new status runs five =
-    command_read_fault old runs.middle new runs.result status (keeps_of row old runs.middle runs.result runs.does).failed runs.ends five
-
--- a command ends with status 6 only where a write failed
-command_write_fault : (old middle new : Outside) (result : Result (Unit {0}) Fault) (status : ℕ) → IfErr result (Fails old middle) → Ends middle new result status → status ≡ 6 → Rose old.write_faults new.write_faults
-command_write_fault old middle new (Ok done) status failed ends six = let is = ends.0 in absurd (omega arith)
-command_write_fault old middle new (Err Words) status failed ends six = absurd failed
-command_write_fault old middle new (Err (Module why)) status failed ends six = let is = ends.0 in absurd (omega arith)
-command_write_fault old middle new (Err (Plan why)) status failed ends six = let is = ends.0 in absurd (omega arith)
-command_write_fault old middle new (Err Read) status failed ends six = let is = ends.0 in absurd (omega arith)
-command_write_fault old middle new (Err Write) status failed (is, (sent, complains)) six =
-    subst (λ (n : ℕ). Rose old.write_faults n) (sym complains.write_faults) failed
-command_write_fault old middle new (Err Memory) status failed ends six = let is = ends.0 in absurd (omega arith)
+    let e = ended row old new status runs in
+    (at_5 row e.names old new e.result (sym e.is ∙ five) e.does).rose
 
 -- status 6 comes only where a write failed
 pub write_fault : (row : Option Row) (old new : Outside) (status : ℕ) → RunsRow row old new status → status ≡ 6 → Rose old.write_faults new.write_faults
 write_fault None old new status runs six =
     let is = (rw runs.does.1 at runs.ends).0 in absurd (omega arith)
 write_fault (Some row) old new status runs six =
-    command_write_fault old runs.middle new runs.result status (keeps_of row old runs.middle runs.result runs.does).failed runs.ends six
+    let e = ended row old new status runs in
+    (at_6 row e.names old new e.result (sym e.is ∙ six) e.does).rose
 
--- a complaint prints nothing and changes no file
-left_by_complaint : {T E : Type 0} (old middle new : Outside) (text : List ℕ) (sent : Result T E) → LeavesAll old middle → Complains middle new text sent → LeavesAll old new
-left_by_complaint old middle new text sent leaves complains = record {
-  printed = Tells-trans old.printed middle.printed new.printed leaves.printed complains.printed;
-  files = Tells-trans old.files middle.files new.files leaves.files complains.files;
+-- to print nothing leaves what was printed
+prints_none : (old new : Outside) (text : List ℕ) → text ≡ [] → Tells (with_more old.printed text) new.printed → Tells old.printed new.printed
+prints_none old new text none printed =
+    subst (λ (o : Option (List ℕ)). Tells o new.printed) (more_none old.printed)
+    (subst (λ (t : List ℕ). Tells (with_more old.printed t) new.printed) none printed)
+
+-- to print nothing and to make nothing is to leave all
+silent_leaves : (s : Saying) (old new : Outside) → (s.text ≡ []) × (s.makes ≡ None) → DoesSaying s old new → LeavesAll old new
+silent_leaves s old new silent does = record {
+  printed = prints_none old new s.text silent.0 does.printed;
+  nothing = subst (λ (m : Option (List ℕ × List ℕ)). MadeWhole m old new) silent.1 does.made;
 }
 
 -- but at the statuses 0 and 6 a command leaves all as it was
-command_leaves_all : (old middle new : Outside) (result : Result (Unit {0}) Fault) (status : ℕ) → IfErr result (Fails old middle) → Ends middle new result status → status ≢ 0 → status ≢ 6 → LeavesAll old new
-command_leaves_all old middle new (Ok done) status failed ends not_0 not_6 = absurd (not_0 ends.0)
-command_leaves_all old middle new (Err Words) status failed ends not_0 not_6 = absurd failed
-command_leaves_all old middle new (Err (Module why)) status failed (is, (sent, complains)) not_0 not_6 =
-    left_by_complaint old middle new _ sent failed complains
-command_leaves_all old middle new (Err (Plan why)) status failed (is, (sent, complains)) not_0 not_6 =
-    left_by_complaint old middle new _ sent failed complains
-command_leaves_all old middle new (Err Read) status failed (is, (sent, complains)) not_0 not_6 =
-    left_by_complaint old middle new _ sent failed.1 complains
-command_leaves_all old middle new (Err Write) status failed ends not_0 not_6 = absurd (not_6 ends.0)
-command_leaves_all old middle new (Err Memory) status failed (is, (sent, complains)) not_0 not_6 =
-    left_by_complaint old middle new _ sent failed complains
+command_leaves : (row : Row) (names : ℕ) (old new : Outside) (result : Result (Unit {0}) Fault) → answer_status result ≢ 0 → answer_status result ≢ 6 → DoesNamed row names old new result → LeavesAll old new
+command_leaves row names old new (Ok done) not_0 not_6 does = absurd (not_0 refl)
+command_leaves row names old new (Err Words) not_0 not_6 does = absurd does
+command_leaves row names old new (Err (Refused why)) not_0 not_6 does =
+    silent_leaves does.saying old new (says_plain row (told_before old new) does.saying why does.says does.refused_is) does.does
+command_leaves row names old new (Err Read) not_0 not_6 does = does.leaves
+command_leaves row names old new (Err Write) not_0 not_6 does = absurd (not_6 refl)
+command_leaves row names old new (Err Memory) not_0 not_6 does = does.leaves
 
 -- but at the statuses 0 and 6 all is left as it was
 pub leaves_all : (row : Option Row) (old new : Outside) (status : ℕ) → RunsRow row old new status → status ≢ 0 → status ≢ 6 → LeavesAll old new
 leaves_all None old new status runs not_0 not_6 =
-    let complains = (rw (runs.does.1, runs.does.0) at runs.ends).1.1 in
-    record { printed = complains.printed; files = complains.files }
+    let reports = (rw (runs.does.1, runs.does.0) at runs.ends).1.1 in
+    record { printed = reports.printed; nothing = record { files = reports.files; making = reports.making } }
 leaves_all (Some row) old new status runs not_0 not_6 =
-    command_leaves_all old runs.middle new runs.result status (keeps_of row old runs.middle runs.result runs.does).failed runs.ends not_0 not_6
-
--- a command asks for its file words from left to right
-command_asks : (row : Row) (old middle new : Outside) (result : Result (Unit {0}) Fault) (status : ℕ) → Keeps row old middle result → Ends middle new result status → AsksInOrder (Some row) old new status
-command_asks row old middle new (Ok done) status keeps ends = record {
-  names = keeps.names;
-  asked = subst (λ (o : Outside). Tells (with_more old.asked (take keeps.names (file_words row))) o.asked) (sym ends.1) keeps.asked;
-  all = λ zero_is. keeps.all_asked;
-}
-command_asks row old middle new (Err fault) status keeps (is, (sent, complains)) = record {
-  names = keeps.names;
-  asked = Tells-trans _ middle.asked new.asked keeps.asked complains.asked;
-  all = λ zero_is. absurd (no_fault_is_0 fault status is zero_is);
-}
+    let e = ended row old new status runs in
+    command_leaves row e.names old new e.result (λ z. not_0 (e.is ∙ z)) (λ z. not_6 (e.is ∙ z)) e.does
 
 -- the file words are asked for from left to right, and no other file is
 pub asks_in_order : (row : Option Row) (old new : Outside) (status : ℕ) → RunsRow row old new status → AsksInOrder row old new status
@@ -174,336 +277,164 @@ asks_in_order None old new status runs =
       all = λ zero_is. absurd (omega arith);
     }
 asks_in_order (Some row) old new status runs =
-    command_asks row old runs.middle new runs.result status (keeps_of row old runs.middle runs.result runs.does) runs.ends
+    let e = ended row old new status runs in
+    record {
+      names = e.names;
+      asked = e.asked;
+      all = λ zero_is. all_at_0 e.names e.result (sym e.is ∙ zero_is) e.all e.does;
+    }
+  where
+    all_at_0 : (names : ℕ) (result : Result (Unit {0}) Fault) → answer_status result ≡ 0 → OnOk result (names ≡ length (file_words row)) → DoesNamed row names old new result → names ≡ length (file_words row)
+    all_at_0 names (Ok done) is all does = all
+    all_at_0 names (Err (Refused why)) is all does = absurd (let low = refusal_low why in omega arith)
+    all_at_0 names result is all does = absurd (omega arith)
 
--- a command complains every fault, and nothing where it is done
-command_aloud : (row : Row) (old middle new : Outside) (result : Result (Unit {0}) Fault) (status : ℕ) → Keeps row old middle result → Ends middle new result status → EndsAloud old new status
-command_aloud row old middle new (Ok done) status keeps ends =
-    inl (ends.0, subst (λ (o : Outside). Tells old.complained o.complained) (sym ends.1) keeps.complained)
-command_aloud row old middle new (Err fault) status keeps ends =
-    inr (fault, complained_fault row old middle new fault status keeps ends)
-
--- every fault is reported
+-- every fault is reported, and nothing where the command is done
 pub ends_aloud : (row : Option Row) (old new : Outside) (status : ℕ) → RunsRow row old new status → EndsAloud old new status
 ends_aloud None old new status runs =
     let ends = rw (runs.does.1, runs.does.0) at runs.ends in
-    let complains = ends.1.1 in
-    inr (Words, record { status_is = ends.0; sent = ends.1.0; added = complains.complained; lost = complains.failed })
+    let reports = ends.1.1 in
+    inr (Words, record { status_is = ends.0; sent = ends.1.0; added = reports.complained; lost = reports.failed })
 ends_aloud (Some row) old new status runs =
-    command_aloud row old runs.middle new runs.result status (keeps_of row old runs.middle runs.result runs.does) runs.ends
+    let e = ended row old new status runs in
+    aloud e.result e.is e.reports
+  where
+    aloud : (result : Result (Unit {0}) Fault) → status ≡ answer_status result → Reports old new status result → EndsAloud old new status
+    aloud (Ok done) is reports = inl (is, reports)
+    aloud (Err fault) is reports = inr (fault, reports)
 
--- no text both says a change and is refused
-not_both : (text : List ℕ) (change : Change) (why : PlanRefused) → PokeLine text (Ok change) → PokeLine text (Err why) → ⊥
-not_both text change TooLong says too_long = omega (arith, says.0)
-not_both text change Line says (fits, none) = let some = says.2 in cc
-not_both text change NoReach (fits, v, said, wished) (fits_too, w, said_too, none) =
-    let same_wish : v ≡ w = cc in
-    let reaches : IsSome (spell w.form w.at) = subst (λ (u : Wish). IsSome (spell u.form u.at)) same_wish (subst (λ (f : Form). IsSome (spell f v.at)) wished.new (subst (λ (a : ℕ). IsSome (spell change.new a)) wished.at wished.reaches)) in
-    let none_there : IsSome {T = List ℕ} None = subst (λ (o : Option (List ℕ)). IsSome o) none reaches in
+-- what is to be refused is refused
+refuses_said : (row : Row) (names : ℕ) (old new : Outside) (s : Saying) (why : Refusal) (result : Result (Unit {0}) Fault) → IsSome (told_before old new) → Says row (told_before old new) s → s.refused ≡ Some why → DoesNamed row names old new result → (answer_status result ≡ refusal_status why) ⊎ (answer_status result ≡ 5) ⊎ (answer_status result ≡ 7) ⊎ ((answer_status result ≡ 6) × SaysSomething s)
+refuses_said row names old new s why (Ok done) some says refused does =
+    let same = says_alike row (told_before old new) does.saying s some does.says says in
+    absurd (let low = refusal_low why in let done_is = ap refused_status does.refused_is in let why_is = ap refused_status refused in omega arith)
+refuses_said row names old new s why (Err Words) some says refused does = absurd does
+refuses_said row names old new s why (Err (Refused other)) some says refused does =
+    inl (sym (ap refused_status does.refused_is) ∙ says_alike row (told_before old new) does.saying s some does.says says ∙ ap refused_status refused)
+refuses_said row names old new s why (Err Read) some says refused does = inr (inl refl)
+refuses_said row names old new s why (Err Write) some says refused does =
+    inr (inr (inr (refl, begun (refused_other does.saying.refused refl))))
+  where
+    -- the saying of the failed write is refused too
+    refused_other : (o : Option Refusal) → does.saying.refused ≡ o → (other : Refusal) × (does.saying.refused ≡ Some other)
+    refused_other None is =
+        let same = says_alike row (told_before old new) does.saying s some does.says says in
+        absurd (let low = refusal_low why in let none_is = ap refused_status is in let why_is = ap refused_status refused in omega arith)
+    refused_other (Some other) is = (other, is)
+
+    begun : (other : Refusal) × (does.saying.refused ≡ Some other) → SaysSomething s
+    begun (other, is) =
+        begins_alike row (told_before old new) does.saying s other some does.says says is
+        (does.begins (subst (λ (o : Option Refusal). IsSome o) (sym is) refl))
+refuses_said row names old new s why (Err Memory) some says refused does = inr (inr (inl refl))
+
+-- where nothing fails, the status is what the files say
+complete_said : (row : Row) (names : ℕ) (old new : Outside) (s : Saying) (result : Result (Unit {0}) Fault) → IsSome (told_before old new) → Says row (told_before old new) s → ¬ Rose old.read_faults new.read_faults → ¬ Rose old.write_faults new.write_faults → DoesNamed row names old new result → (answer_status result ≡ saying_status s) ⊎ (answer_status result ≡ 7)
+complete_said row names old new s (Ok done) some says no_read no_write does =
+    inl (sym (ap refused_status does.refused_is) ∙ says_alike row (told_before old new) does.saying s some does.says says)
+complete_said row names old new s (Err Words) some says no_read no_write does = absurd does
+complete_said row names old new s (Err (Refused why)) some says no_read no_write does =
+    inl (sym (ap refused_status does.refused_is) ∙ says_alike row (told_before old new) does.saying s some does.says says)
+complete_said row names old new s (Err Read) some says no_read no_write does = absurd (no_read does.rose)
+complete_said row names old new s (Err Write) some says no_read no_write does = absurd (no_write does.rose)
+complete_said row names old new s (Err Memory) some says no_read no_write does = inr refl
+
+-- and 0 where they refuse nothing
+accepts_said : (row : Row) (names : ℕ) (old new : Outside) (result : Result (Unit {0}) Fault) → ((s : Saying) → Says row (told_before old new) s → s.refused ≡ None) → ¬ Rose old.read_faults new.read_faults → ¬ Rose old.write_faults new.write_faults → DoesNamed row names old new result → (answer_status result ≡ 0) ⊎ (answer_status result ≡ 7)
+accepts_said row names old new (Ok done) none no_read no_write does = inl refl
+accepts_said row names old new (Err Words) none no_read no_write does = absurd does
+accepts_said row names old new (Err (Refused why)) none no_read no_write does =
+    let some = does.refused_is in
+    let not = none does.saying does.says in
     absurd (cc)
-not_both text change Old (fits, v, said, wished) (fits_too, w, said_too, reaches, not_wished) =
-    not_wished change (subst (λ (u : Wish). IsWished u change) (let same_wish : v ≡ w = cc in same_wish) wished)
-
--- where the files are told, two texts that a file holds are one
-one_text : (outside : Outside) (file a b : List ℕ) → IsSome outside.files → Holds outside file a → Holds outside file b → a ≡ b
-one_text outside file a b told first second = go outside.files refl told
-  where
-    go : (files : Option Files) → outside.files ≡ files → IsSome files → a ≡ b
-    go None is some = absurd (cc)
-    go (Some files) is some =
-        let one = first files is in
-        let other = second files is in
-        cc
-
--- no refusal stands after the last place of the order
-order_below : (why : ElfRefused) → order why < 13
-order_below (Short n) = lit< tt
-order_below (Magic n) = lit< tt
-order_below (Class n) = lit< tt
-order_below (Data n) = lit< tt
-order_below (Version n) = lit< tt
-order_below (Machine n) = lit< tt
-order_below (Kind n) = lit< tt
-order_below (Relocatable n) = lit< tt
-order_below (Headers n) = lit< tt
-order_below (Section n) = lit< tt
-order_below (Names n) = lit< tt
-order_below (Symbols n) = lit< tt
-
--- no module file is both shown and refused
-not_both_shown : (file text : List ℕ) (why : ModuleRefused) → ModuleShows file (Ok text) → ModuleShows file (Err why) → ⊥
-not_both_shown file text LongModule shows long = let fits = shows.0 in omega arith
-not_both_shown file text (Elf why) shows refused =
-    shows.1.none why (order_below why) refused.1.holds
-not_both_shown file text (Image (Table Jump n)) shows refused = shows.2 refused.2
-not_both_shown file text (Image (Table Call n)) shows refused = shows.3 refused.2.1
-not_both_shown file text (Image (Table Trace n)) shows refused = shows.4 refused.2.2
-not_both_shown file text (Image (TextCount n)) shows refused = refused
-not_both_shown file text (Image (TextSize n)) shows refused = refused
-not_both_shown file text (Image (SiteCount n)) shows refused = refused
-not_both_shown file text (Image (SiteOutside at)) shows refused = refused
-not_both_shown file text (Image (SiteLength at)) shows refused = refused
-not_both_shown file text (Image (SiteOverlap at)) shows refused = refused
-not_both_shown file text (Image (KeyOutside at)) shows refused = refused
-not_both_shown file text (Image (KeyState at)) shows refused = refused
-not_both_shown file text (Image (OutOfReach at)) shows refused = refused
-not_both_shown file text (Image (TracerMissing at)) shows refused = refused
-not_both_shown file text (Image (Undecoded at)) shows refused = refused
-not_both_shown file text (Image (BadTarget from to)) shows refused = refused
-not_both_shown file text (Image (EndFalls at)) shows refused = refused
-not_both_shown file text (Image NoMemory) shows refused = refused
-
--- a module that no condition refuses isn't refused
-not_refused : (file : List ℕ) (why : Refused) → ImagePasses (elf_of file) 15 → IsImageRefusal (elf_of file) why → ⊥
-not_refused file (TextCount n) passes refused = passes.none (TextCount n) (lit< tt) refused.holds
-not_refused file (TextSize n) passes refused = passes.none (TextSize n) (lit< tt) refused.holds
-not_refused file (Table kind n) passes refused = passes.none (Table kind n) (lit< tt) refused.holds
-not_refused file (SiteCount n) passes refused = passes.none (SiteCount n) (lit< tt) refused.holds
-not_refused file (SiteOutside at) passes refused = passes.none (SiteOutside at) (lit< tt) refused.holds
-not_refused file (SiteLength at) passes refused = passes.none (SiteLength at) (lit< tt) refused.holds
-not_refused file (SiteOverlap at) passes refused = passes.none (SiteOverlap at) (lit< tt) refused.holds
-not_refused file (KeyOutside at) passes refused = passes.none (KeyOutside at) (lit< tt) refused.holds
-not_refused file (KeyState at) passes refused = passes.none (KeyState at) (lit< tt) refused.holds
-not_refused file (OutOfReach at) passes refused = passes.none (OutOfReach at) (lit< tt) refused.holds
-not_refused file (TracerMissing at) passes refused = passes.none (TracerMissing at) (lit< tt) refused.holds
-not_refused file (Undecoded at) passes refused = passes.none (Undecoded at) (lit< tt) refused.holds
-not_refused file (BadTarget from to) passes refused = passes.none (BadTarget from to) (lit< tt) refused.holds
-not_refused file (EndFalls at) passes refused = passes.none (EndFalls at) (lit< tt) refused.holds
-not_refused file NoMemory passes refused = refused.holds
-
--- no module file is both accepted and refused
-not_both_checked : (file text : List ℕ) (why : ModuleRefused) → ModuleChecks file (Ok text) → ModuleChecks file (Err why) → ⊥
-not_both_checked file text LongModule checks long = let fits = checks.0 in omega arith
-not_both_checked file text (Elf why) checks refused =
-    checks.1.none why (order_below why) refused.1.holds
-not_both_checked file text (Image why) checks refused = not_refused file why checks.2 refused.2
-
--- the files of a command, where they are told, don't both say a text and a refusal
-says_apart : (row : Row) (outside : Outside) (text : List ℕ) (why : Fault) → IsSome outside.files → Says row outside (Ok text) → Says row outside (Err why) → ⊥
-says_apart (command.Plan file) outside text (Plan why) told says refused =
-    not_both says.1.text says.0 why says.1.says
-    (subst (λ (t : List ℕ). PokeLine t (Err why)) (one_text outside file refused.text says.1.text told refused.holds says.1.holds) refused.says)
-says_apart (command.Plan file) outside text Words told says refused = refused
-says_apart (command.Plan file) outside text (Module why) told says refused = refused
-says_apart (command.Plan file) outside text Read told says refused = refused
-says_apart (command.Plan file) outside text Write told says refused = refused
-says_apart (command.Plan file) outside text Memory told says refused = refused
-says_apart (command.Show file) outside text (Module why) told says refused =
-    not_both_shown says.file text why says.says
-    (subst (λ (t : List ℕ). ModuleShows t (Err why)) (one_text outside file refused.file says.file told refused.holds says.holds) refused.says)
-says_apart (command.Show file) outside text Words told says refused = refused
-says_apart (command.Show file) outside text (Plan why) told says refused = refused
-says_apart (command.Show file) outside text Read told says refused = refused
-says_apart (command.Show file) outside text Write told says refused = refused
-says_apart (command.Show file) outside text Memory told says refused = refused
-says_apart (command.Check file) outside text (Module why) told says refused =
-    not_both_checked says.file text why says.says
-    (subst (λ (t : List ℕ). ModuleChecks t (Err why)) (one_text outside file refused.file says.file told refused.holds says.holds) refused.says)
-says_apart (command.Check file) outside text Words told says refused = refused
-says_apart (command.Check file) outside text (Plan why) told says refused = refused
-says_apart (command.Check file) outside text Read told says refused = refused
-says_apart (command.Check file) outside text Write told says refused = refused
-says_apart (command.Check file) outside text Memory told says refused = refused
-says_apart (command.Make n file) outside text why told says refused = refused
-
--- the status of what a command's files are refused for; `make` reads none
-refusal_status : Row → ℕ
-refusal_status (command.Plan file) = 3
-refusal_status (command.Show file) = 2
-refusal_status (command.Check file) = 2
-refusal_status (command.Make n file) = 0
-
--- each of its refusals has that status
-says_status : (row : Row) (outside : Outside) (why : Fault) → Says row outside (Err why) → status_of why ≡ refusal_status row
-unfolding refusal_status
-says_status (command.Plan file) outside (Plan why) refused = refl
-says_status (command.Plan file) outside Words refused = absurd refused
-says_status (command.Plan file) outside (Module why) refused = absurd refused
-says_status (command.Plan file) outside Read refused = absurd refused
-says_status (command.Plan file) outside Write refused = absurd refused
-says_status (command.Plan file) outside Memory refused = absurd refused
-says_status (command.Show file) outside (Module why) refused = refl
-says_status (command.Show file) outside Words refused = absurd refused
-says_status (command.Show file) outside (Plan why) refused = absurd refused
-says_status (command.Show file) outside Read refused = absurd refused
-says_status (command.Show file) outside Write refused = absurd refused
-says_status (command.Show file) outside Memory refused = absurd refused
-says_status (command.Check file) outside (Module why) refused = refl
-says_status (command.Check file) outside Words refused = absurd refused
-says_status (command.Check file) outside (Plan why) refused = absurd refused
-says_status (command.Check file) outside Read refused = absurd refused
-says_status (command.Check file) outside Write refused = absurd refused
-says_status (command.Check file) outside Memory refused = absurd refused
-says_status (command.Make n file) outside why refused = absurd refused
-
--- what the files said in the middle they say at the end
-says_later : (row : Row) (middle new : Outside) (said : Result (List ℕ) Fault) → Tells middle.files new.files → Says row middle said → Says row new said
-says_later (command.Plan file) middle new (Ok text) tells says =
-    (says.0, record { text = says.1.text; holds = λ files e. says.1.holds files (tells.told files e); says = says.1.says }, says.2)
-says_later (command.Plan file) middle new (Err (Plan why)) tells says =
-    record { text = says.text; holds = λ files e. says.holds files (tells.told files e); says = says.says }
-says_later (command.Plan file) middle new (Err Words) tells says = says
-says_later (command.Plan file) middle new (Err (Module why)) tells says = says
-says_later (command.Plan file) middle new (Err Read) tells says = says
-says_later (command.Plan file) middle new (Err Write) tells says = says
-says_later (command.Plan file) middle new (Err Memory) tells says = says
-says_later (command.Show file) middle new (Ok text) tells says =
-    record { file = says.file; holds = λ files e. says.holds files (tells.told files e); says = says.says }
-says_later (command.Show file) middle new (Err (Module why)) tells says =
-    record { file = says.file; holds = λ files e. says.holds files (tells.told files e); says = says.says }
-says_later (command.Show file) middle new (Err Words) tells says = says
-says_later (command.Show file) middle new (Err (Plan why)) tells says = says
-says_later (command.Show file) middle new (Err Read) tells says = says
-says_later (command.Show file) middle new (Err Write) tells says = says
-says_later (command.Show file) middle new (Err Memory) tells says = says
-says_later (command.Check file) middle new (Ok text) tells says =
-    record { file = says.file; holds = λ files e. says.holds files (tells.told files e); says = says.says }
-says_later (command.Check file) middle new (Err (Module why)) tells says =
-    record { file = says.file; holds = λ files e. says.holds files (tells.told files e); says = says.says }
-says_later (command.Check file) middle new (Err Words) tells says = says
-says_later (command.Check file) middle new (Err (Plan why)) tells says = says
-says_later (command.Check file) middle new (Err Read) tells says = says
-says_later (command.Check file) middle new (Err Write) tells says = says
-says_later (command.Check file) middle new (Err Memory) tells says = says
-says_later (command.Make n file) middle new said tells says = says
-
--- where a command's files are refused, it ends with the status of that
-ends_refused : (row : Row) (old middle new : Outside) (fault : Fault) (status : ℕ) → Keeps row old middle (Err fault) → Says row middle (Err fault) → (status_of fault ≡ 2) ⊎ (status_of fault ≡ 3) → Ends middle new (Err fault) status → EndsSaying row old new status
-ends_refused row old middle new fault status keeps says which (is, (sent, complains)) =
-    let at_end : Says row new (Err fault) = says_later row middle new (Err fault) complains.files says in
-    record {
-      done = λ zero_is. absurd (no_fault_is_0 fault status is zero_is);
-      refused = λ either. (fault, at_end, complained_fault row old middle new fault status keeps (is, (sent, complains)));
-      cut = λ six. absurd (not_6 which is six);
-      refuses = λ why told refused. inl (is ∙ says_status row new fault at_end ∙ sym (says_status row new why refused));
-      complete = λ text told said no_read no_write. absurd (says_apart row new text fault told said at_end);
-    }
-  where
-    not_6 : (status_of fault ≡ 2) ⊎ (status_of fault ≡ 3) → status ≡ status_of fault → status ≡ 6 → ⊥
-    not_6 (inl two) is six = omega arith
-    not_6 (inr three) is six = omega arith
-
--- the statuses of a command that prints what its files say, by what it answered
-ends_by_answer : (row : Row) (old middle new : Outside) (result : Result (Unit {0}) Fault) (status : ℕ) → Keeps row old middle result → PrintsSaid row old middle result → Ends middle new result status → EndsSaying row old new status
-ends_by_answer row old middle new (Ok done) status keeps prints (is, same_outside) = record {
-  done = λ zero_is. subst (λ (o : Outside). (text : List ℕ) × Says row o (Ok text) × PrintsText old o text) (sym same_outside) prints;
-  refused = λ either. absurd (not_refused either);
-  cut = λ six. absurd (omega arith);
-  refuses = λ why told refused. absurd (says_apart row new prints.0 why told (subst (λ (o : Outside). Says row o (Ok prints.0)) (sym same_outside) prints.1) refused);
-  complete = λ text told said no_read no_write. inl is;
-}
-  where
-    not_refused : (status ≡ 2) ⊎ (status ≡ 3) → ⊥
-    not_refused (inl two) = omega arith
-    not_refused (inr three) = omega arith
-ends_by_answer row old middle new (Err Words) status keeps prints ends = absurd keeps.failed
-ends_by_answer row old middle new (Err (Module why)) status keeps prints ends =
-    ends_refused row old middle new (Module why) status keeps prints (inl refl) ends
-ends_by_answer row old middle new (Err (Plan why)) status keeps prints ends =
-    ends_refused row old middle new (Plan why) status keeps prints (inr refl) ends
-ends_by_answer row old middle new (Err Read) status keeps prints (is, (sent, complains)) = record {
-  done = λ zero_is. absurd (omega arith);
-  refused = λ either. absurd (not_refused either);
-  cut = λ six. absurd (omega arith);
-  refuses = λ why told refused. inr (inl is);
-  complete = λ text told says no_read no_write. absurd (no_read (subst (λ (n : ℕ). Rose old.read_faults n) (sym complains.read_faults) keeps.failed.0));
-}
-  where
-    not_refused : (status ≡ 2) ⊎ (status ≡ 3) → ⊥
-    not_refused (inl two) = omega arith
-    not_refused (inr three) = omega arith
-ends_by_answer row old middle new (Err Write) status keeps prints (is, (sent, complains)) =
-    let says : Says row new (Ok prints.0) = says_later row middle new (Ok prints.0) complains.files prints.1 in
-    record {
-      done = λ zero_is. absurd (omega arith);
-      refused = λ either. absurd (not_refused either);
-      cut = λ six. (prints.0, says, record { part = prints.2.part; prefix = prints.2.prefix; printed = Tells-trans _ middle.printed new.printed prints.2.printed complains.printed });
-      refuses = λ why told refused. absurd (says_apart row new prints.0 why told says refused);
-      complete = λ text told said no_read no_write. absurd (no_write (subst (λ (n : ℕ). Rose old.write_faults n) (sym complains.write_faults) keeps.failed));
-    }
-  where
-    not_refused : (status ≡ 2) ⊎ (status ≡ 3) → ⊥
-    not_refused (inl two) = omega arith
-    not_refused (inr three) = omega arith
-ends_by_answer row old middle new (Err Memory) status keeps prints (is, (sent, complains)) = record {
-  done = λ zero_is. absurd (omega arith);
-  refused = λ either. absurd (not_refused either);
-  cut = λ six. absurd (omega arith);
-  refuses = λ why told refused. inr (inr is);
-  complete = λ text told says no_read no_write. inr is;
-}
-  where
-    not_refused : (status ≡ 2) ⊎ (status ≡ 3) → ⊥
-    not_refused (inl two) = omega arith
-    not_refused (inr three) = omega arith
-
--- `make` prints nothing, and refuses no file
-make_prints : (n : ℕ) (name : List ℕ) (old middle : Outside) (result : Result (Unit {0}) Fault) → DoesMake n name old middle result → PrintsSaid (command.Make n name) old middle result
-make_prints n name old middle (Ok done) does =
-    ([], refl, Tells-trans _ old.printed middle.printed (Tells-no_more old.printed) does.printed)
-make_prints n name old middle (Err Write) does = (
-  [],
-  refl,
-  record {
-    part = [];
-    prefix = refl;
-    printed = Tells-trans _ old.printed middle.printed (Tells-no_more old.printed) does.printed;
-  },
-)
-make_prints n name old middle (Err Words) does = absurd does.makes
-make_prints n name old middle (Err (Module why)) does = absurd does.makes
-make_prints n name old middle (Err (Plan why)) does = absurd does.makes
-make_prints n name old middle (Err Read) does = absurd does.makes
-make_prints n name old middle (Err Memory) does = tt
-
--- what a command prints of what its files say
-prints_of : (row : Row) (old middle : Outside) (result : Result (Unit {0}) Fault) → Does row old middle result → PrintsSaid row old middle result
-prints_of (command.Plan file) old middle result does = does.prints
-prints_of (command.Show file) old middle result does = does.prints
-prints_of (command.Check file) old middle result does = does.prints
-prints_of (command.Make n file) old middle result does = make_prints n file old middle result does
+accepts_said row names old new (Err Read) none no_read no_write does = absurd (no_read does.rose)
+accepts_said row names old new (Err Write) none no_read no_write does = absurd (no_write does.rose)
+accepts_said row names old new (Err Memory) none no_read no_write does = inr refl
 
 -- the statuses of a command
 pub ends_saying : (row : Row) (old new : Outside) (status : ℕ) → RunsRow (Some row) old new status → EndsSaying row old new status
 ends_saying row old new status runs =
-    ends_by_answer row old runs.middle new runs.result status (keeps_of row old runs.middle runs.result runs.does) (prints_of row old runs.middle runs.result runs.does) runs.ends
+    let e = ended row old new status runs in
+    record {
+      done = λ zero_is. let did = at_0 row e.names old new e.result (sym e.is ∙ zero_is) e.does in (did.saying, did.says, did.refused_is, did.does);
+      refused = λ which.
+          let range = in_range which in
+          at_refused row e.names old new status e.result (sym e.is) range.0 range.1 e.does e.reports;
+      cut = λ six. let did = at_6 row e.names old new e.result (sym e.is ∙ six) e.does in (did.saying, did.says, did.cuts);
+      refuses = λ s why some says refused.
+          subst (λ (n : ℕ). (n ≡ refusal_status why) ⊎ (n ≡ 5) ⊎ (n ≡ 7) ⊎ ((n ≡ 6) × SaysSomething s)) (sym e.is) (refuses_said row e.names old new s why e.result some says refused e.does);
+      complete = λ s some says no_read no_write.
+          subst (λ (n : ℕ). (n ≡ saying_status s) ⊎ (n ≡ 7)) (sym e.is) (complete_said row e.names old new s e.result some says no_read no_write e.does);
+      accepts = λ some none no_read no_write.
+          subst (λ (n : ℕ). (n ≡ 0) ⊎ (n ≡ 7)) (sym e.is) (accepts_said row e.names old new e.result none no_read no_write e.does);
+    }
+  where
+    in_range : (status ≡ 2) ⊎ (status ≡ 3) ⊎ (status ≡ 4) → (2 ≤ status) × (status ≤ 4)
+    in_range (inl two) = (omega arith, omega arith)
+    in_range (inr (inl three)) = (omega arith, omega arith)
+    in_range (inr (inr four)) = (omega arith, omega arith)
+
+-- the call that the first of these names is handed to
+abbrev first_by : List (List ℕ × AskedBy) → AskedBy
+first_by [] = AskedMake
+first_by ((name, by) ∷ rest) = by
+
+-- `make` reads no file
+make_reads_none : (n : ℕ) (name : List ℕ) (names : ℕ) → IsRead (file_words (command.Make n name)) names → ⊥
+make_reads_none n name names is = other is.before is.words_are
+  where
+    other : (before : List (List ℕ × AskedBy)) → (name, AskedMake) ∷ [] ≡ before ++ (is.name, AskedRead) ∷ is.after → ⊥
+    other [] same = let by : ◌≡◌ {A = AskedBy} AskedMake AskedRead = ap first_by same in cc
+    other (word ∷ []) same = cc
+    other (word ∷ more ∷ before) same = cc
+
+-- what `make` says
+made_of : (n : ℕ) (name : List ℕ) (old new : Outside) (s : Saying) → MakeSays n name s → MadeWhole s.makes old new → (bytes : List ℕ) × IsModuleOf n bytes × Tells (with_file old.files name bytes) new.files
+made_of n name old new s (bytes, is_module, is) made =
+    (bytes, is_module, subst (λ (x : Saying). MadeWhole x.makes old new) is made)
+
+part_of : (n : ℕ) (name : List ℕ) (old new : Outside) (s : Saying) → MakeSays n name s → MadePart s.makes old new → (bytes : List ℕ) × IsModuleOf n bytes × MakesPrefix old new name bytes
+part_of n name old new s (bytes, is_module, is) made =
+    (bytes, is_module, subst (λ (x : Saying). MadePart x.makes old new) is made)
+
+-- what a prefix of nothing leaves
+part_none : (old new : Outside) (text part : List ℕ) → text ≡ [] → IsPrefix part text → Tells (with_more old.printed part) new.printed → Tells old.printed new.printed
+part_none old new text [] none prefix printed = prints_none old new [] refl printed
+part_none old new text (byte ∷ part) none prefix printed =
+    absurd (let whole = subst (λ (t : List ℕ). IsPrefix (byte ∷ part) t) none prefix in cc)
 
 -- the statuses of `make`, by what it answered
-make_by_answer : (n : ℕ) (name : List ℕ) (old middle new : Outside) (result : Result (Unit {0}) Fault) (status : ℕ) → DoesMake n name old middle result → Ends middle new result status → EndsMaking n name old new status
-make_by_answer n name old middle new (Ok done) status does (is, same_outside) = record {
-  done = λ zero_is. subst (λ (o : Outside). HoldsModule n name old o) (sym same_outside) does.makes;
+make_ends : (n : ℕ) (name : List ℕ) (names : ℕ) (old new : Outside) (result : Result (Unit {0}) Fault) (status : ℕ) → status ≡ answer_status result → DoesNamed (command.Make n name) names old new result → EndsMaking n name old new status
+make_ends n name names old new (Ok done) status is does = record {
+  done = λ zero_is. made_of n name old new does.saying does.says does.does.made;
   cut = λ six. absurd (omega arith);
+  memory = λ seven. absurd (omega arith);
   only = inl is;
-  prints_nothing = subst (λ (o : Outside). Tells old.printed o.printed) (sym same_outside) does.printed;
+  prints_nothing = prints_none old new does.saying.text (ap (λ (x : Saying). x.text) does.says.2) does.does.printed;
 }
-make_by_answer n name old middle new (Err Write) status does (is, (sent, complains)) = record {
+make_ends n name names old new (Err Words) status is does = absurd does
+make_ends n name names old new (Err (Refused why)) status is does =
+    let some = does.refused_is in
+    let none = ap (λ (x : Saying). x.refused) does.says.2 in
+    absurd (cc)
+make_ends n name names old new (Err Read) status is does = absurd (make_reads_none n name names does.is_read)
+make_ends n name names old new (Err Write) status is does = record {
   done = λ zero_is. absurd (omega arith);
-  cut = λ six. record {
-    bytes = does.makes.bytes;
-    is_module = does.makes.is_module;
-    part = does.makes.part;
-    prefix = does.makes.prefix;
-    files = files_later does.makes.files;
-  };
+  cut = λ six. part_of n name old new does.saying does.says does.cuts.made;
+  memory = λ seven. absurd (omega arith);
   only = inr (inl is);
-  prints_nothing = Tells-trans old.printed middle.printed new.printed does.printed complains.printed;
+  prints_nothing = part_none old new does.saying.text does.cuts.printed.part (ap (λ (x : Saying). x.text) does.says.2) does.cuts.printed.prefix does.cuts.printed.printed;
 }
-  where
-    files_later : Tells old.files middle.files ⊎ Tells (with_file old.files name does.makes.part) middle.files → Tells old.files new.files ⊎ Tells (with_file old.files name does.makes.part) new.files
-    files_later (inl same) = inl (Tells-trans old.files middle.files new.files same complains.files)
-    files_later (inr made) = inr (Tells-trans _ middle.files new.files made complains.files)
-make_by_answer n name old middle new (Err Memory) status does (is, (sent, complains)) = record {
+make_ends n name names old new (Err Memory) status is does = record {
   done = λ zero_is. absurd (omega arith);
   cut = λ six. absurd (omega arith);
+  memory = λ seven. does.leaves.nothing;
   only = inr (inr is);
-  prints_nothing = Tells-trans old.printed middle.printed new.printed does.printed complains.printed;
+  prints_nothing = does.leaves.printed;
 }
-make_by_answer n name old middle new (Err Words) status does ends = absurd does.makes
-make_by_answer n name old middle new (Err (Module why)) status does ends = absurd does.makes
-make_by_answer n name old middle new (Err (Plan why)) status does ends = absurd does.makes
-make_by_answer n name old middle new (Err Read) status does ends = absurd does.makes
 
 -- the statuses of `make`
 pub ends_making : (n : ℕ) (name : List ℕ) (old new : Outside) (status : ℕ) → RunsRow (Some (command.Make n name)) old new status → EndsMaking n name old new status
 ends_making n name old new status runs =
-    make_by_answer n name old runs.middle new runs.result status runs.does runs.ends
+    let e = ended (command.Make n name) old new status runs in
+    make_ends n name e.names old new e.result status e.is e.does

@@ -1,21 +1,20 @@
 -- What `check` says of a module file, and why one isn't accepted.
-use Rattle.std.specs.Prelude.{◌≡◌, ◌≤◌, ◌<◌, ⊤, ℕ, List, [], ◌∷◌, ◌++◌, length, codes, Result, Ok, Err}
+use Rattle.std.specs.Prelude.{◌≤◌, ◌<◌, ⊤, ℕ, List, [], ◌∷◌, ◌++◌, length, codes}
 use Rattle.std.specs.List.{flat_map}
-use Rattle.poke_base.specs.Host.{Outside}
 use Rattle.poke_base.specs.Number.{decimal, hexadecimal}
 use Rattle.elf_module.specs.Elf.{Elf, sections_of, symbols_of}
 use Rattle.elf_module.specs.Refusals.{IsRefusal, Passes}
 use Rattle.module_image.specs.declared.site.Site.{Site}
-use Rattle.module_image.specs.Entries.{base}
-use Rattle.module_image.specs.Sites.{code_at, sites, text}
+use Rattle.module_image.specs.Sites.{code_at}
 use Rattle.module_image.specs.SiteLine.{site_line}
 use Rattle.module_image.specs.Module.{Module, IsModule}
-use Rattle.module_image.specs.Refusals.{IsRefusal as IsImageRefusal, Passes as ImagePasses}
+use Rattle.module_image.specs.Refusals.{IsRefusal as IsImageRefusal}
 use Rattle.poke_tool.specs.declared.fault.Fault.{Fault}
-use Rattle.poke_tool.specs.declared.fault.Fault.TheVariants.{Module as ModuleFault, Memory}
+use Rattle.poke_tool.specs.declared.fault.Fault.TheVariants.{Refused as RefusedFault, Memory}
+use Rattle.poke_tool.specs.declared.fault.Refusal.{Refusal}
+use Rattle.poke_tool.specs.declared.fault.Refusal.TheVariants.{Module as ModuleRefusal, Plan as PlanRefusal}
 use Rattle.poke_tool.specs.declared.module_fault.ModuleRefused.{ModuleRefused}
 use Rattle.poke_tool.specs.declared.module_fault.ModuleRefused.TheVariants.{TooLong, Elf as NoElf, Image}
-use Rattle.poke_tool.specs.Plan.{Holds}
 use Rattle.poke_tool.specs.Module.{module_limit}
 
 -- the sections and symbols that a file's bytes say
@@ -41,14 +40,11 @@ accepted_line = codes "accepted" ++ 10 ∷ []
 abbrev pub accepted_text : ℕ → List ℕ → List Site → List ℕ
 accepted_text base text sites = (text_line base text ++ site_lines base text sites) ++ accepted_line
 
--- why a module file isn't accepted, the first thing that is wrong, or the text that is printed of it
-abbrev pub ModuleChecks : List ℕ → Result (List ℕ) ModuleRefused → Type 0
-ModuleChecks file (Err TooLong) = module_limit < length file
-ModuleChecks file (Err (NoElf why)) = (length file ≤ module_limit) × IsRefusal file why
-ModuleChecks file (Err (Image why)) = (length file ≤ module_limit) × Passes file 13 × IsImageRefusal (elf_of file) why
-ModuleChecks file (Ok printed) =
-    (length file ≤ module_limit) × Passes file 13 × ImagePasses (elf_of file) 15
-    × (printed ≡ accepted_text (base (elf_of file)) (text (elf_of file)) (sites (elf_of file)))
+-- why a file isn't accepted as a module: the first thing that is wrong with it
+abbrev pub RefusesModule : List ℕ → ModuleRefused → Type 0
+RefusesModule file TooLong = module_limit < length file
+RefusesModule file (NoElf why) = (length file ≤ module_limit) × IsRefusal file why
+RefusesModule file (Image why) = (length file ≤ module_limit) × Passes file 13 × IsImageRefusal (elf_of file) why
 
 -- the bytes are those of a module file that is accepted as this module
 pub record Accepts (file : List ℕ) (m : Module) : Type 0 where
@@ -56,14 +52,13 @@ pub record Accepts (file : List ℕ) (m : Module) : Type 0 where
   pub passes : Passes file 13
   pub is_module : IsModule (elf_of file) m
 
+-- why a file isn't accepted, as the refusal of a command
+abbrev pub RefusesAsModule : List ℕ → Refusal → Type 0
+RefusesAsModule file (ModuleRefusal why) = RefusesModule file why
+RefusesAsModule file (PlanRefusal why) = ⊥
+
 -- why bytes aren't accepted: they are refused, or there was no memory
 abbrev pub RefusesFile : List ℕ → Fault → Type 0
-RefusesFile file (ModuleFault why) = ModuleChecks file (Err why)
+RefusesFile file (RefusedFault why) = RefusesAsModule file why
 RefusesFile file Memory = ⊤
 RefusesFile file _ = ⊥
-
--- the file says this of what is printed
-pub record SaysCheck (outside : Outside) (name : List ℕ) (said : Result (List ℕ) ModuleRefused) : Type 0 where
-  pub file : List ℕ
-  pub holds : Holds outside name file
-  pub says : ModuleChecks file said

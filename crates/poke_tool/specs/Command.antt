@@ -26,23 +26,11 @@ row (WithMake blocks module_file) = Make blocks module_file.now
 abbrev pub words_of : List (String Global) → List (List ℕ)
 words_of words = map string_bytes words
 
--- `plan FILE`
-abbrev pub plan_row : List (List ℕ) → Option Row
-plan_row [] = None
-plan_row (file ∷ []) = Some (Plan file)
-plan_row (file ∷ more ∷ rest) = None
-
--- `show MODULE`
-abbrev pub show_row : List (List ℕ) → Option Row
-show_row [] = None
-show_row (module_file ∷ []) = Some (Show module_file)
-show_row (module_file ∷ more ∷ rest) = None
-
--- `check MODULE`
-abbrev pub check_row : List (List ℕ) → Option Row
-check_row [] = None
-check_row (module_file ∷ []) = Some (Check module_file)
-check_row (module_file ∷ more ∷ rest) = None
+-- the only word after a command's name, its file
+abbrev pub one_file : List (List ℕ) → Option (List ℕ)
+one_file [] = None
+one_file (file ∷ []) = Some file
+one_file (file ∷ more ∷ rest) = None
 
 -- a number of blocks, 10 to 1,000
 abbrev pub in_range : Option ℕ → Option ℕ
@@ -63,9 +51,9 @@ make_row (n ∷ module_file ∷ more ∷ rest) = None
 abbrev pub row_of : List (List ℕ) → Option Row
 row_of [] = None
 row_of (name ∷ rest) =
-    if bytes_eq name (codes "plan") then plan_row rest
-    else if bytes_eq name (codes "show") then show_row rest
-    else if bytes_eq name (codes "check") then check_row rest
+    if bytes_eq name (codes "plan") then option_map (λ file. Plan file) (one_file rest)
+    else if bytes_eq name (codes "show") then option_map (λ file. Show file) (one_file rest)
+    else if bytes_eq name (codes "check") then option_map (λ file. Check file) (one_file rest)
     else if bytes_eq name (codes "make") then make_row rest
     else None
 

@@ -12,12 +12,18 @@ use Rattle.poke_tool.specs.declared.module_fault.ModuleRefused.TheVariants.{TooL
 use Rattle.module_image.specs.declared.refused.Refused.{Refused}
 use Rattle.module_image.specs.declared.refused.Refused.TheVariants.{TextCount, TextSize, Table, SiteCount, SiteOutside, SiteLength, SiteOverlap, KeyOutside, KeyState, NoReach as OutOfReach, TracerMissing, Undecoded, BadTarget, EndFalls, NoMemory}
 use Rattle.poke_tool.specs.declared.fault.Fault.{Fault}
-use Rattle.poke_tool.specs.declared.fault.Fault.TheVariants.{Words, Module, Plan, Read, Write, Memory}
+use Rattle.poke_tool.specs.declared.fault.Fault.TheVariants.{Words, Refused as RefusedFault, Read, Write, Memory}
+use Rattle.poke_tool.specs.declared.fault.Refusal.{Refusal}
+use Rattle.poke_tool.specs.declared.fault.Refusal.TheVariants.{Module, Plan}
+
+-- the status of a refused file, by its kind
+abbrev pub refusal_status : Refusal → ℕ
+refusal_status (Module why) = 2
+refusal_status (Plan why) = 3
 
 abbrev pub status_of : Fault → ℕ
 status_of Words = 1
-status_of (Module why) = 2
-status_of (Plan why) = 3
+status_of (RefusedFault why) = refusal_status why
 status_of Read = 5
 status_of Write = 6
 status_of Memory = 7
@@ -104,10 +110,14 @@ name_of Line = codes "Line"
 name_of NoReach = codes "NoReach"
 name_of Old = codes "Old"
 
+-- which file is refused, and why
+abbrev pub refusal_reason : Refusal → List ℕ
+refusal_reason (Module why) = codes "module: " ++ module_reason why
+refusal_reason (Plan why) = codes "plan: " ++ name_of why
+
 abbrev pub reason_of : Fault → List ℕ
 reason_of Words = codes "bad words"
-reason_of (Module why) = codes "module: " ++ module_reason why
-reason_of (Plan why) = codes "plan: " ++ name_of why
+reason_of (RefusedFault why) = refusal_reason why
 reason_of Read = codes "read failed"
 reason_of Write = codes "write failed"
 reason_of Memory = codes "no memory"

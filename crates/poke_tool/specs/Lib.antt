@@ -4,6 +4,7 @@ pub mod Module
 pub mod Check
 pub mod Command
 pub mod Fault
+pub mod Saying
 pub mod Runs
 pub mod Endings
 pub mod SiteBytes

@@ -1,7 +1,6 @@
 -- What `show` says of a module file, and why one is refused.
 use Rattle.std.specs.Prelude.{◌≡◌, ◌≤◌, ◌<◌, ℕ, ◌*◌, ◌/◌, if◌then◌else◌, List, [], ◌∷◌, ◌++◌, length, codes, Option, Some, None, Result, Ok, Err}
 use Rattle.std.specs.List.{flat_map, range_with_len}
-use Rattle.poke_base.specs.Host.{Outside}
 use Rattle.poke_base.specs.Number.{hexadecimal}
 use Rattle.elf_module.specs.Elf.{SectionRecord, sections_of}
 use Rattle.elf_module.specs.Refusals.{IsRefusal, Passes}
@@ -15,7 +14,6 @@ pub use Rattle.site_tables.specs.Tables.{table_in}
 use Rattle.poke_tool.specs.declared.module_fault.ModuleRefused.{ModuleRefused}
 use Rattle.poke_tool.specs.declared.module_fault.ModuleRefused.TheVariants.{TooLong, Elf, Image}
 use Rattle.module_image.specs.declared.refused.Refused.TheVariants.{Table}
-use Rattle.poke_tool.specs.Plan.{Holds}
 
 -- how many bytes a module file may have
 abbrev pub module_limit : ℕ
@@ -68,9 +66,3 @@ ModuleShows file (Ok text) =
     (length file ≤ module_limit) × Passes file 13
     × (¬ IsBadTable (sections_of file) Jump) × (¬ IsBadTable (sections_of file) Call) × (¬ IsBadTable (sections_of file) Trace)
     × (text ≡ shown_text file)
-
--- the file says this of what is shown
-pub record SaysShow (outside : Outside) (name : List ℕ) (said : Result (List ℕ) ModuleRefused) : Type 0 where
-  pub file : List ℕ
-  pub holds : Holds outside name file
-  pub says : ModuleShows file said

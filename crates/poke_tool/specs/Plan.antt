@@ -1,9 +1,7 @@
 -- What `plan` prints, and from what.
-use Rattle.std.specs.Prelude.{◌≡◌, ℕ, List, [], ◌∷◌, ◌++◌, codes, drop, Option, Some, Result}
+use Rattle.std.specs.Prelude.{ℕ, List, [], ◌∷◌, ◌++◌, codes, drop, Option}
 use Rattle.std.specs.List.{flat_map}
-use Rattle.std.specs.FinMap.{get}
 use Rattle.hex.specs.Hex.{encode_lower}
-use Rattle.poke_base.specs.Host.{Files, Outside}
 use Rattle.poke_base.specs.Number.{hexadecimal}
 use Rattle.insn_forms.specs.declared.forms.Change.{Change}
 use Rattle.poke_batch.specs.declared.batch.Due.{Due}
@@ -11,8 +9,6 @@ use Rattle.poke_batch.specs.declared.batch.Due.TheVariants.{Idle, Write, Request
 use Rattle.poke_batch.specs.Walk.{Walk, due_of, to_come}
 use Rattle.poke_batch.specs.Poke.{Item, items}
 use Rattle.poke_batch.specs.Poke.Item.{Puts, Syncs}
-use Rattle.poke_tool.specs.declared.plan_line.PlanRefused.{PlanRefused}
-use Rattle.poke_tool.specs.PlanLine.{PokeLine}
 
 -- the line of an item: `w ADDRESS BYTE` or `sync`
 abbrev pub item_line : Item → List ℕ
@@ -33,13 +29,3 @@ after_wait Return items = items
 
 abbrev pub to_print : Option Walk → List Item
 to_print update = after_wait (due_of update) (to_come update)
-
--- a file that holds a text, where the files are told
-abbrev pub Holds : Outside → List ℕ → List ℕ → Type 0
-Holds outside file text = (files : Files) → outside.files ≡ Some files → get files file ≡ Some text
-
--- the file says this of the plan
-pub record SaysPlan (outside : Outside) (file : List ℕ) (said : Result Change PlanRefused) : Type 0 where
-  pub text : List ℕ
-  pub holds : Holds outside file text
-  pub says : PokeLine text said

@@ -1,20 +1,16 @@
 -- What the whole program does to the outside, and with which status it ends.
-use Rattle.std.specs.Prelude.{◌≡◌, ◌≤◌, ◌⊎◌, ℕ, List, [], length, take, Option, Some, None, Result, Ok, Err, OnOk, IfErr, ⊤}
+use Rattle.std.specs.Prelude.{◌≡◌, ◌≢◌, ◌≤◌, ◌⊎◌, ⊤, ℕ, ◌+◌, List, [], ◌∷◌, ◌++◌, length, take, Option, Some, None, IsSome, Result, Ok, Err, OnOk}
+use Rattle.poke_base.specs.declared.host.AskedBy.{AskedBy}
+use Rattle.poke_base.specs.declared.host.AskedBy.TheVariants.{Read as AskedRead, Make as AskedMake}
 use Rattle.poke_base.specs.declared.host.WriteFail.{WriteFail}
 use Rattle.poke_base.specs.Host.{Outside, Rose, Tells, with_more, with_file, Complains}
 use Rattle.poke_base.specs.Text.{IsPrefix}
-use Rattle.insn_forms.specs.declared.forms.Change.{Change}
-use Rattle.elf_build.specs.declared.plan.Plan.{Plan}
-use Rattle.elf_build.specs.File.{file_of}
-use Rattle.elf_build.specs.Generated.{IsGenerated}
 use Rattle.poke_tool.specs.declared.fault.Fault.{Fault}
-use Rattle.poke_tool.specs.declared.fault.Fault.TheVariants.{Words, Module, Plan as PlanFault, Read, Write, Memory}
-use Rattle.poke_tool.specs.Command as command
+use Rattle.poke_tool.specs.declared.fault.Fault.TheVariants.{Words, Refused, Read, Write, Memory}
+use Rattle.poke_tool.specs.declared.fault.Refusal.{Refusal}
 use Rattle.poke_tool.specs.Command.{Row, row_of, file_words}
 use Rattle.poke_tool.specs.Fault.{status_of, complaint_of}
-use Rattle.poke_tool.specs.Plan.{SaysPlan, poke_text}
-use Rattle.poke_tool.specs.Module.{SaysShow}
-use Rattle.poke_tool.specs.Check.{SaysCheck}
+use Rattle.poke_tool.specs.Saying.{Holds, Saying, Says, told_before}
 
 -- a text was printed
 abbrev pub PrintsText : Outside → Outside → List ℕ → Type 0
@@ -26,126 +22,138 @@ pub record PrintsPrefix (old new : Outside) (text : List ℕ) : Type 0 where
   pub prefix : IsPrefix part text
   pub printed : PrintsText old new part
 
--- nothing was printed, and no file was made or changed
-pub record LeavesAll (old new : Outside) : Type 0 where
-  pub printed : Tells old.printed new.printed
-  pub files : Tells old.files new.files
-
--- why a command failed; after every fault but a failed write all is as before
-abbrev pub Fails : Outside → Outside → Fault → Type 0
-Fails old new Words = ⊥
-Fails old new (Module why) = LeavesAll old new
-Fails old new (PlanFault why) = LeavesAll old new
-Fails old new Read = Rose old.read_faults new.read_faults × LeavesAll old new
-Fails old new Write = Rose old.write_faults new.write_faults
-Fails old new Memory = LeavesAll old new
-
--- what every command keeps, whatever comes of it
-pub record Keeps (row : Row) (old new : Outside) (result : Result (Unit {0}) Fault) : Type 0 where
-  pub complained : Tells old.complained new.complained
-  pub complain_faults : new.complain_faults ≡ old.complain_faults
-  pub read_faults : old.read_faults ≤ new.read_faults
-  pub write_faults : old.write_faults ≤ new.write_faults
-  -- the first n of its file words were asked for, from left to right; all of them where it is done
-  pub names : ℕ
-  pub asked : Tells (with_more old.asked (take names (file_words row))) new.asked
-  pub all_asked : OnOk result (names ≡ length (file_words row))
-  pub failed : IfErr result (Fails old new)
-
--- what no command but one that makes a file changes
+-- no file was made or changed
 pub record MakesNothing (old new : Outside) : Type 0 where
   pub files : Tells old.files new.files
   pub making : new.making ≡ old.making
 
--- what the file of `plan` says of what is printed: the poke of its change, or why it is refused
-abbrev pub PlanSays : List ℕ → Outside → Result (List ℕ) Fault → Type 0
-PlanSays file outside (Ok text) = (change : Change) × SaysPlan outside file (Ok change) × (text ≡ poke_text change)
-PlanSays file outside (Err (PlanFault why)) = SaysPlan outside file (Err why)
-PlanSays file outside (Err _) = ⊥
+-- nothing was printed, and no file was made or changed
+pub record LeavesAll (old new : Outside) : Type 0 where
+  pub printed : Tells old.printed new.printed
+  pub nothing : MakesNothing old new
 
--- what the file of `show` says of what is printed: the entries of its tables, or why it is refused
-abbrev pub ShowSays : List ℕ → Outside → Result (List ℕ) Fault → Type 0
-ShowSays file outside (Ok text) = SaysShow outside file (Ok text)
-ShowSays file outside (Err (Module why)) = SaysShow outside file (Err why)
-ShowSays file outside (Err _) = ⊥
-
--- what the file of `check` says of what is printed: the text and sites of its module, or why it isn't accepted
-abbrev pub CheckSays : List ℕ → Outside → Result (List ℕ) Fault → Type 0
-CheckSays file outside (Ok text) = SaysCheck outside file (Ok text)
-CheckSays file outside (Err (Module why)) = SaysCheck outside file (Err why)
-CheckSays file outside (Err _) = ⊥
-
--- `make` reads no file and prints nothing
-abbrev pub MakeSays : Result (List ℕ) Fault → Type 0
-MakeSays (Ok text) = text ≡ []
-MakeSays (Err _) = ⊥
-
--- what the files of a command say of what is printed
-abbrev pub Says : Row → Outside → Result (List ℕ) Fault → Type 0
-Says (command.Plan file) outside said = PlanSays file outside said
-Says (command.Show file) outside said = ShowSays file outside said
-Says (command.Check file) outside said = CheckSays file outside said
-Says (command.Make n file) outside said = MakeSays said
-
--- what a command that failed has printed of what its files say
-abbrev pub FailsSaying : Row → Outside → Outside → Fault → Type 0
-FailsSaying row old new (Module why) = Says row new (Err (Module why))
-FailsSaying row old new (PlanFault why) = Says row new (Err (PlanFault why))
-FailsSaying row old new Write = (text : List ℕ) × Says row new (Ok text) × PrintsPrefix old new text
-FailsSaying row old new _ = ⊤
-
--- what a command answers that prints what its files say
-abbrev pub PrintsSaid : Row → Outside → Outside → Result (Unit {0}) Fault → Type 0
-PrintsSaid row old new (Ok done) = (text : List ℕ) × Says row new (Ok text) × PrintsText old new text
-PrintsSaid row old new (Err fault) = FailsSaying row old new fault
-
--- what a command does that reads one file, for which it always asks, and prints what that says
-pub record ShowsFile (row : Row) (old new : Outside) (result : Result (Unit {0}) Fault) : Type 0 where
-  pub keeps : Keeps row old new result
-  pub makes_nothing : MakesNothing old new
-  pub asks : Tells (with_more old.asked (file_words row)) new.asked
-  pub prints : PrintsSaid row old new result
-
--- the bytes are those of the module with n blocks
-pub record IsModuleOf (n : ℕ) (bytes : List ℕ) : Type 0 where
-  pub plan : Plan
-  pub generated : IsGenerated n plan
-  pub bytes_are : bytes ≡ file_of plan
-
--- the file was made, and holds the module
-pub record HoldsModule (n : ℕ) (name : List ℕ) (old new : Outside) : Type 0 where
-  pub bytes : List ℕ
-  pub is_module : IsModuleOf n bytes
-  pub files : Tells (with_file old.files name bytes) new.files
-
--- a write failed: the file is as before, or was made and holds a prefix of the module
-pub record HoldsPrefix (n : ℕ) (name : List ℕ) (old new : Outside) : Type 0 where
-  pub bytes : List ℕ
-  pub is_module : IsModuleOf n bytes
+-- the file is as before, or was made and holds a prefix of these bytes
+pub record MakesPrefix (old new : Outside) (name bytes : List ℕ) : Type 0 where
   pub part : List ℕ
   pub prefix : IsPrefix part bytes
   pub files : Tells old.files new.files ⊎ Tells (with_file old.files name part) new.files
 
--- what `make` leaves of its file; where there was no memory all is as before, and it fails for no other reason
-abbrev pub MakesModule : ℕ → List ℕ → Outside → Outside → Result (Unit {0}) Fault → Type 0
-MakesModule n name old new (Ok done) = HoldsModule n name old new
-MakesModule n name old new (Err Write) = HoldsPrefix n name old new
-MakesModule n name old new (Err Memory) = ⊤
-MakesModule n name old new (Err _) = ⊥
+-- the file that is to be made was made and holds its bytes; where none is, nothing was made
+abbrev pub MadeWhole : Option (List ℕ × List ℕ) → Outside → Outside → Type 0
+MadeWhole None old new = MakesNothing old new
+MadeWhole (Some file) old new = Tells (with_file old.files file.0 file.1) new.files
 
--- what `make` does: it builds the whole file first, makes it then, and prints nothing
-pub record DoesMake (n : ℕ) (name : List ℕ) (old new : Outside) (result : Result (Unit {0}) Fault) : Type 0 where
-  pub keeps : Keeps (command.Make n name) old new result
-  pub printed : Tells old.printed new.printed
-  pub reads_nothing : new.read_faults ≡ old.read_faults
-  pub makes : MakesModule n name old new result
+-- what a failed write leaves of the file that is to be made
+abbrev pub MadePart : Option (List ℕ × List ℕ) → Outside → Outside → Type 0
+MadePart None old new = MakesNothing old new
+MadePart (Some file) old new = MakesPrefix old new file.0 file.1
 
--- what a command does before a complaint
-abbrev pub Does : Row → Outside → Outside → Result (Unit {0}) Fault → Type 0
-Does (command.Plan file) old new result = ShowsFile (command.Plan file) old new result
-Does (command.Show file) old new result = ShowsFile (command.Show file) old new result
-Does (command.Check file) old new result = ShowsFile (command.Check file) old new result
-Does (command.Make n file) old new result = DoesMake n file old new result
+-- what the files say was done
+pub record DoesSaying (s : Saying) (old new : Outside) : Type 0 where
+  pub printed : PrintsText old new s.text
+  pub made : MadeWhole s.makes old new
+
+-- a part of what the files say was done
+pub record DoesPart (s : Saying) (old new : Outside) : Type 0 where
+  pub printed : PrintsPrefix old new s.text
+  pub made : MadePart s.makes old new
+
+-- what a failed write leaves of what a command's files say
+abbrev pub Cuts : Row → Saying → Outside → Outside → Type 0
+Cuts row s old new = DoesPart s old new
+
+-- something is printed or made
+abbrev pub SaysSomething : Saying → Type 0
+SaysSomething s = (s.text ≢ []) ⊎ (s.makes ≢ None)
+
+-- this many names were asked for by a command that has done what its files say, and was refused after that or wasn't
+pub record Concludes (row : Row) (names : ℕ) (old new : Outside) (refused : Option Refusal) : Type 0 where
+  pub saying : Saying
+  pub says : Says row (told_before old new) saying
+  pub refused_is : saying.refused ≡ refused
+  pub asks : names ≡ saying.asks
+  pub does : DoesSaying saying old new
+
+-- a write failed; before a refusal only where something is to be printed or made before it
+pub record FailsWriting (row : Row) (names : ℕ) (old new : Outside) : Type 0 where
+  pub rose : Rose old.write_faults new.write_faults
+  pub saying : Saying
+  pub says : Says row (told_before old new) saying
+  pub begins : IsSome saying.refused → SaysSomething saying
+  pub asks : names ≡ saying.asks
+  pub cuts : Cuts row saying old new
+
+-- the last of the first n of these names is of a file that is read
+pub record IsRead (words : List (List ℕ × AskedBy)) (n : ℕ) : Type 0 where
+  pub before : List (List ℕ × AskedBy)
+  pub name : List ℕ
+  pub after : List (List ℕ × AskedBy)
+  pub words_are : words ≡ before ++ (name, AskedRead) ∷ after
+  pub is_last : n ≡ length before + 1
+
+-- the read of the file with the last name that was asked for failed, and no file before it is refused
+pub record FailsReading (row : Row) (names : ℕ) (old new : Outside) : Type 0 where
+  pub rose : Rose old.read_faults new.read_faults
+  pub leaves : LeavesAll old new
+  pub is_read : IsRead (file_words row) names
+  pub not_refused : (s : Saying) → IsSome (told_before old new) → Says row (told_before old new) s → names ≤ s.asks
+
+-- the first name was asked for, where it is of a file that is read
+abbrev pub AsksFirst : List (List ℕ × AskedBy) → ℕ → Type 0
+AsksFirst [] n = ⊤
+AsksFirst ((name, AskedRead) ∷ rest) n = 1 ≤ n
+AsksFirst ((name, AskedMake) ∷ rest) n = ⊤
+
+-- there was no memory
+pub record LacksMemory (row : Row) (names : ℕ) (old new : Outside) : Type 0 where
+  pub leaves : LeavesAll old new
+  pub asks : AsksFirst (file_words row) names
+
+-- what a command did that asked for this many of its names, by its answer
+abbrev pub DoesNamed : Row → ℕ → Outside → Outside → Result (Unit {0}) Fault → Type 0
+DoesNamed row names old new (Ok done) = Concludes row names old new None
+DoesNamed row names old new (Err (Refused why)) = Concludes row names old new (Some why)
+DoesNamed row names old new (Err Write) = FailsWriting row names old new
+DoesNamed row names old new (Err Read) = FailsReading row names old new
+DoesNamed row names old new (Err Memory) = LacksMemory row names old new
+DoesNamed row names old new (Err Words) = ⊥
+
+-- these names were asked for; nothing was reported, and no count fell
+pub record Asks (words : List (List ℕ × AskedBy)) (old new : Outside) : Type 0 where
+  pub asked : Tells (with_more old.asked words) new.asked
+  pub complained : Tells old.complained new.complained
+  pub complain_faults : new.complain_faults ≡ old.complain_faults
+  pub read_faults : old.read_faults ≤ new.read_faults
+  pub write_faults : old.write_faults ≤ new.write_faults
+
+-- none of these names is of a file that is read
+abbrev pub ReadsNone : List (List ℕ × AskedBy) → Type 0
+ReadsNone [] = ⊤
+ReadsNone ((name, AskedRead) ∷ rest) = ⊥
+ReadsNone ((name, AskedMake) ∷ rest) = ReadsNone rest
+
+-- what a command does before its fault is reported
+pub record Does (row : Row) (old new : Outside) (result : Result (Unit {0}) Fault) : Type 0 where
+  -- its first names were asked for, from left to right; all of them where it is done
+  pub names : ℕ
+  pub asks : Asks (take names (file_words row)) old new
+  pub all : OnOk result (names ≡ length (file_words row))
+  pub reads : ReadsNone (file_words row) → new.read_faults ≡ old.read_faults
+  pub does : DoesNamed row names old new result
+
+-- what reading a file as a value answers: what its bytes are, or what they are refused for
+abbrev pub InputIs : {T : Type 0} → Outside → Outside → List ℕ → (List ℕ → T → Type 0) → (List ℕ → Refusal → Type 0) → Result T Fault → Type 0
+InputIs old new name Is Refuses (Ok value) = (bytes : List ℕ) × Holds new.files name bytes × Is bytes value
+InputIs old new name Is Refuses (Err (Refused why)) = (bytes : List ℕ) × Holds new.files name bytes × Refuses bytes why
+InputIs old new name Is Refuses (Err Read) = Rose old.read_faults new.read_faults
+InputIs old new name Is Refuses (Err Memory) = ⊤
+InputIs old new name Is Refuses (Err _) = ⊥
+
+-- what reading a file as a value does
+pub record ReadsInput {T : Type 0} (old new : Outside) (name : List ℕ) (Is : List ℕ → T → Type 0) (Refuses : List ℕ → Refusal → Type 0) (result : Result T Fault) : Type 0 where
+  pub asks : Asks ((name, AskedRead) ∷ []) old new
+  pub leaves : LeavesAll old new
+  pub input : InputIs old new name Is Refuses result
 
 -- how the program ends: a fault is reported, and gives the status whether the complaint went out or not
 abbrev pub Ends : Outside → Outside → Result (Unit {0}) Fault → ℕ → Type 0

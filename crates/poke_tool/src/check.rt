@@ -5,38 +5,26 @@ ghost use Rattle.module_image.specs.Text.{IsInside};
 ghost use Rattle.poke_base.specs.Host.{Prints};
 ghost use Rattle.poke_tool.specs.Check.{accepted_text, site_lines, text_line};
 ghost use Rattle.poke_tool.specs.Command.{Check as CheckRow};
-ghost use Rattle.poke_tool.specs.Runs.{ShowsFile};
+ghost use Rattle.poke_tool.specs.Runs.{Does};
 
 use crate::fault::Fault;
-use crate::module_fault::{MODULE_LIMIT, ModuleRefused};
-use crate::module_file::accept_file;
+use crate::module_file::read_module;
 use module_image::{Image, Site, site_line};
-use poke_base::{Host, Line, ReadFail, WriteFail, put_dec, put_hex, put_text};
+use poke_base::{Host, Line, WriteFail, put_dec, put_hex, put_text};
 use std::alloc::Global;
 
-/// Prints the text and the sites of a module, a line each, and that it is accepted.
+/// Prints the text and the sites of a module, a line each, and that it is accepted. The module is
+/// read first, once, and no other file is.
 ///
 /// # Errors
-/// Why the file wasn't read or was refused, in which case nothing was printed; a failed write, after
-/// which a prefix of the text was printed; out of memory, which comes before anything is printed.
+/// `Read`, `Refused` for the first thing that is wrong with the module, or `Memory`: nothing was
+/// printed. `Write`: a prefix of the text was printed.
 pub fn check<H: Host>(alloc: Global, name: &str, host: &mut H) -> Result<(), Fault>
-    ensures { ShowsFile (CheckRow name.now) (H.outside host.old) (H.outside host.new) result }
+    ensures { Does (CheckRow name.now) (H.outside host.old) (H.outside host.new) result }
 {
-    let mut bytes = Vec::new(alloc);
-    match host.read_file(name, MODULE_LIMIT, &mut bytes) {
-        Ok(()) => {}
-        Err(ReadFail::Failed) => return Err(Fault::Read),
-        Err(ReadFail::TooLong) => return Err(Fault::Module(ModuleRefused::TooLong)),
-        Err(ReadFail::NoMemory) => return Err(Fault::Memory),
-    }
-    let image = match accept_file(alloc, &bytes) {
-        Ok(image) => image,
-        Err(fault) => return Err(fault),
-    };
-    match print_image(&image, host) {
-        Ok(()) => Ok(()),
-        Err(WriteFail) => Err(Fault::Write),
-    }
+    let image = read_module(alloc, name, host)?;
+    print_image(&image, host)?;
+    Ok(())
 }
 
 /// Prints a module: its text, its sites, and that it is accepted.

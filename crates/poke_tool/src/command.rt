@@ -1,6 +1,6 @@
 //! The commands, as the words after the program's name give them.
 ghost use Rattle.std.specs.Prelude.{◌≡◌, IfSome, option_map};
-ghost use Rattle.poke_tool.specs.Command.{block_count};
+ghost use Rattle.poke_tool.specs.Command.{block_count, one_file, words_of};
 
 use poke_base::read_dec;
 
@@ -18,7 +18,7 @@ pub enum Command<'a> {
 }
 
 impl<'a> Command<'a> {
-    ghost use Rattle.poke_tool.specs.Command.{IsInRange, check_row, make_row, plan_row, row, row_of, show_row, words_of};
+    ghost use Rattle.poke_tool.specs.Command.{IsInRange, make_row, row, row_of, words_of};
 
     /// The command that the words are. `None` exactly for all other words.
     pub fn read(words: &'a [String]) -> Option<Command<'a>>
@@ -27,46 +27,16 @@ impl<'a> Command<'a> {
     {
         let (name, rest) = words.split_first()?;
         match name.as_str() {
-            "plan" => Command::plan(rest),
-            "show" => Command::show(rest),
-            "check" => Command::check(rest),
+            "plan" => Some(Command::Plan {
+                file: one_file(rest)?,
+            }),
+            "show" => Some(Command::Show {
+                module: one_file(rest)?,
+            }),
+            "check" => Some(Command::Check {
+                module: one_file(rest)?,
+            }),
             "make" => Command::make(rest),
-            _ => None,
-        }
-    }
-
-    /// `plan FILE`
-    fn plan(rest: &'a [String]) -> Option<Command<'a>>
-        ensures { option_map row result ≡ plan_row (words_of rest.now) }
-    {
-        match rest {
-            [file] => Some(Command::Plan {
-                file: file.as_str(),
-            }),
-            _ => None,
-        }
-    }
-
-    /// `show MODULE`
-    fn show(rest: &'a [String]) -> Option<Command<'a>>
-        ensures { option_map row result ≡ show_row (words_of rest.now) }
-    {
-        match rest {
-            [module] => Some(Command::Show {
-                module: module.as_str(),
-            }),
-            _ => None,
-        }
-    }
-
-    /// `check MODULE`
-    fn check(rest: &'a [String]) -> Option<Command<'a>>
-        ensures { option_map row result ≡ check_row (words_of rest.now) }
-    {
-        match rest {
-            [module] => Some(Command::Check {
-                module: module.as_str(),
-            }),
             _ => None,
         }
     }
@@ -86,6 +56,16 @@ impl<'a> Command<'a> {
             }
             _ => None,
         }
+    }
+}
+
+/// The only word after a command's name, its file. `None` exactly where there is none or more than one.
+fn one_file(rest: &[String]) -> Option<&str>
+    ensures { option_map (λ file. file.now) result ≡ one_file (words_of rest.now) }
+{
+    match rest {
+        [file] => Some(file.as_str()),
+        _ => None,
     }
 }
 

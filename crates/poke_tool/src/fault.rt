@@ -1,30 +1,105 @@
 //! Why a command failed, with the status and the complaint of each reason.
 ghost use Rattle.std.specs.Prelude.{◌≡◌, ◌≤◌, ◌+◌, ◌++◌, length};
 ghost use Rattle.arrayvec.specs.ArrayVec.{array_vec_len};
+ghost use Rattle.poke_tool.specs.declared.fault.Fault.TheVariants.{Memory, Write};
+ghost use Rattle.poke_tool.specs.declared.fault.Fault.TheVariants.{Refused as RefusedFault};
+ghost use Rattle.poke_tool.specs.declared.fault.Refusal.TheVariants.{Module as ModuleRefusal, Plan as PlanRefusal};
 ghost use Rattle.poke_tool.specs.Fault.{elf_name, elf_number, image_name, image_place, kind_name, module_reason, name_of};
 
 use crate::module_fault::ModuleRefused;
 use crate::plan_line::PlanRefused;
 use elf_module::ElfRefused;
 use module_image::Refused;
-use poke_base::{Line, put_hex, put_text};
+use poke_base::{Line, NoMemory, WriteFail, put_hex, put_text};
 use site_tables::TableKind;
+
+/// Which file of a command is refused, and why.
+#[derive(Clone, Copy, Debug, PartialEq, Eq)]
+pub enum Refusal {
+    /// The module file.
+    Module(ModuleRefused),
+    /// The plan file.
+    Plan(PlanRefused),
+}
 
 /// Why a command failed.
 #[derive(Clone, Copy, Debug, PartialEq, Eq)]
 pub enum Fault {
     /// The words are no command.
     Words,
-    /// The module file was refused.
-    Module(ModuleRefused),
-    /// The plan file was refused.
-    Plan(PlanRefused),
+    /// A file was refused.
+    Refused(Refusal),
     /// A file wasn't read.
     Read,
     /// A write failed.
     Write,
     /// There was no memory.
     Memory,
+}
+
+impl From<ModuleRefused> for Fault {
+    ghost from_gives = { λ why fault. fault ≡ RefusedFault (ModuleRefusal why) };
+
+    fn from(why: ModuleRefused) -> Fault {
+        Fault::Refused(Refusal::Module(why))
+    }
+}
+
+impl From<PlanRefused> for Fault {
+    ghost from_gives = { λ why fault. fault ≡ RefusedFault (PlanRefusal why) };
+
+    fn from(why: PlanRefused) -> Fault {
+        Fault::Refused(Refusal::Plan(why))
+    }
+}
+
+impl From<WriteFail> for Fault {
+    ghost from_gives = { λ _ fault. fault ≡ Write };
+
+    fn from(_fail: WriteFail) -> Fault {
+        Fault::Write
+    }
+}
+
+impl From<NoMemory> for Fault {
+    ghost from_gives = { λ _ fault. fault ≡ Memory };
+
+    fn from(_none: NoMemory) -> Fault {
+        Fault::Memory
+    }
+}
+
+impl Refusal {
+    ghost use Rattle.poke_tool.specs.Fault.{refusal_reason, refusal_status};
+
+    /// The status with which the program ends.
+    fn status(&self) -> u8
+        ensures { result ≡ refusal_status self.now }
+    {
+        match self {
+            Refusal::Module(_) => 2,
+            Refusal::Plan(_) => 3,
+        }
+    }
+
+    /// Adds the file's kind, and why it is refused, to the line.
+    #[tactic(auto, using(poke_base::proofs::Numbers::line_room))]
+    fn put_reason(&self, line: &mut Line)
+        requires { array_vec_len line.old ≤ 10 }
+        ensures reason { line.new.items ≡ line.old.items ++ refusal_reason self.now }
+        ensures short { length (refusal_reason self.now) ≤ 60 }
+    {
+        match self {
+            Refusal::Module(why) => {
+                put_text(line, b"module: ");
+                put_module(line, why);
+            }
+            Refusal::Plan(why) => {
+                put_text(line, b"plan: ");
+                put_text(line, plan_name(why));
+            }
+        }
+    }
 }
 
 impl Fault {
@@ -36,8 +111,7 @@ impl Fault {
     {
         match self {
             Fault::Words => 1,
-            Fault::Module(_) => 2,
-            Fault::Plan(_) => 3,
+            Fault::Refused(why) => why.status(),
             Fault::Read => 5,
             Fault::Write => 6,
             Fault::Memory => 7,
@@ -65,14 +139,7 @@ impl Fault {
     {
         match self {
             Fault::Words => put_text(line, b"bad words"),
-            Fault::Module(why) => {
-                put_text(line, b"module: ");
-                put_module(line, why);
-            }
-            Fault::Plan(why) => {
-                put_text(line, b"plan: ");
-                put_text(line, plan_name(why));
-            }
+            Fault::Refused(why) => why.put_reason(line),
             Fault::Read => put_text(line, b"read failed"),
             Fault::Write => put_text(line, b"write failed"),
             Fault::Memory => put_text(line, b"no memory"),

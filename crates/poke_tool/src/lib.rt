@@ -6,6 +6,7 @@ mod check;
 mod command;
 mod entry_lines;
 mod fault;
+mod input;
 mod make;
 mod module_fault;
 mod module_file;
@@ -15,7 +16,7 @@ mod print_table;
 mod show;
 mod top;
 
-pub use fault::Fault;
+pub use fault::{Fault, Refusal};
 pub use module_fault::ModuleRefused;
 pub use plan_line::PlanRefused;
 pub use top::textpoke;

@@ -8,44 +8,34 @@ ghost use Rattle.poke_batch.specs.Poke.Item.{Puts, Syncs};
 ghost use Rattle.poke_tool.specs.PlanLine.{IsPlan};
 ghost use Rattle.poke_tool.specs.Plan.{item_line, to_print};
 ghost use Rattle.poke_tool.specs.Command.{Plan as PlanRow};
-ghost use Rattle.poke_tool.specs.Runs.{ShowsFile};
+ghost use Rattle.poke_tool.specs.Runs.{Does};
 
-use crate::fault::Fault;
+use crate::fault::{Fault, Refusal};
+use crate::input::read_input;
 use crate::plan_line::{Plan, PlanRefused, read_plan};
 use insn_forms::Changes;
-use poke_base::{Host, Line, NoMemory, ReadFail, WriteFail, put_bytes, put_hex, put_text};
+use poke_base::{Host, Line, NoMemory, WriteFail, put_bytes, put_hex, put_text};
 use poke_batch::{Batch, Due};
 use std::alloc::Global;
 
 /// How many bytes a plan file may have.
 const PLAN_LIMIT: u64 = 256;
 
-/// Prints the poke of the change that the file asks for, a line for each write and each request.
+/// Prints the poke of the change that the file asks for, a line for each write and each request. The
+/// file is read first, once, and no other file is.
 ///
 /// # Errors
-/// Why the file wasn't read or was refused, in which case nothing was printed; a failed write, after
-/// which a prefix of the text was printed; out of memory, which comes before anything is printed.
+/// `Read`, `Refused` for what is wrong with the plan, or `Memory`: nothing was printed. `Write`: a
+/// prefix of the text was printed.
 pub fn plan<H: Host>(alloc: Global, file: &str, host: &mut H) -> Result<(), Fault>
-    ensures { ShowsFile (PlanRow file.now) (H.outside host.old) (H.outside host.new) result }
+    ensures { Does (PlanRow file.now) (H.outside host.old) (H.outside host.new) result }
 {
-    let mut text = Vec::new(alloc);
-    match host.read_file(file, PLAN_LIMIT, &mut text) {
-        Ok(()) => {}
-        Err(ReadFail::Failed) => return Err(Fault::Read),
-        Err(ReadFail::TooLong) => return Err(Fault::Plan(PlanRefused::TooLong)),
-        Err(ReadFail::NoMemory) => return Err(Fault::Memory),
-    }
-    let plan = match read_plan(&text) {
-        Ok(plan) => plan,
-        Err(why) => return Err(Fault::Plan(why)),
-    };
-    let Ok(mut batch) = open_batch(alloc, &plan) else {
-        return Err(Fault::Memory);
-    };
-    match print_poke(&mut batch, host) {
-        Ok(()) => Ok(()),
-        Err(WriteFail) => Err(Fault::Write),
-    }
+    let too_long = Refusal::Plan(PlanRefused::TooLong);
+    let text = read_input(alloc, file, PLAN_LIMIT, too_long, host)?;
+    let plan = read_plan(&text)?;
+    let mut batch = open_batch(alloc, &plan)?;
+    print_poke(&mut batch, host)?;
+    Ok(())
 }
 
 /// A batch of one processor in which the plan's change is open.

@@ -18,9 +18,13 @@ use std::alloc::Global;
 /// words don't have the program's name.
 ///
 /// 0: done. 1: the words are no command. 2: the module was refused. 3: the plan file was refused.
-/// 5: a file wasn't read. 6: a write failed. 7: out of memory, which comes before anything is
-/// printed or made. At every status but 0 the reason is reported in one line; a complaint that
-/// fails leaves the status as it is.
+/// 5: a file wasn't read. 6: a write failed. 7: out of memory. At every status but 0 the reason is
+/// reported in one line; a report that fails leaves the status as it is.
+///
+/// What a command does is what its files said before it (`Says`). At 0 all of that was printed and
+/// made; at 2 and 3 the file is refused for the reason that is reported; at 6 a prefix of what 0
+/// prints was printed, and a file that is made is as before or holds a prefix. At every status but 0
+/// and 6 nothing was printed, and no file was made or changed.
 pub fn textpoke<H: Host>(alloc: Global, words: &[String], host: &mut H) -> u8
     ensures runs { Runs (words_of words.now) (H.outside host.old) (H.outside host.new) result }
 
@@ -37,7 +41,7 @@ pub fn textpoke<H: Host>(alloc: Global, words: &[String], host: &mut H) -> u8
     match do_command(alloc, words, host) {
         Ok(()) => 0,
         Err(fault) => {
-            // The status says why, whether the complaint goes out or not.
+            // The status says why, whether the report goes out or not.
             let _ = host.complain(&fault.complaint());
             fault.status()
         }

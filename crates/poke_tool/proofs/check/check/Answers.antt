@@ -1,32 +1,23 @@
-use Rattle.std.proofs.Common.{List, ℕ, refl, subst}
-use Rattle.poke_tool.specs.declared.fault.Fault.TheVariants.{Module}
-use Rattle.poke_tool.specs.declared.module_fault.ModuleRefused.TheVariants.{TooLong}
-use Rattle.poke_tool.specs.Check.{Accepts, RefusesFile}
-use Rattle.poke_tool.specs.Command.{Check as CheckRow}
-use Rattle.poke_tool.specs.Module.{module_limit}
-use Rattle.poke_tool.proofs.CheckRuns.{check_cut, check_done, check_refused}
-use Rattle.poke_tool.proofs.FileRuns.{file_refused, long_file}
+use Rattle.std.proofs.Common.{Err, Ok, inr, refl}
+use Rattle.poke_tool.specs.declared.fault.Fault.TheVariants.{Write}
+use Rattle.poke_tool.specs.Check.{accepted_text}
+use Rattle.poke_tool.specs.Command.{Check}
+use Rattle.poke_tool.specs.Saying.{CheckSays}
+use Rattle.poke_tool.proofs.Ways.{at_exit, module_refused, one_fails, one_prints}
 use Rattle.poke_tool.proofs.check.check.Goals as goal
 
-pub returns-in-Err-TooLong : goal.returns-in-Err-TooLong
-returns-in-Err-TooLong g c =
-    let reads = rw c.in-Err-TooLong.field-0-is at c.in-Err-TooLong.ensures in
-    let long = long_file _ _ c.args.name.now c.read_file.new.out.items module_limit reads in
-    file_refused (CheckRow c.args.name.now) _ _ c.args.name.now c.read_file.new.out.items module_limit _ (Module TooLong) refl reads (λ leaves. leaves) (record { file = long.text; holds = long.holds; says = long.long })
+pub returns-in_err-image : goal.returns-in_err-image
+returns-in_err-image g c =
+    at_exit (Check c.args.name.now) _ _ c.in_err-image.field-0.0 c.from_residual.result c.from_residual.ensures.1
+    (one_fails (Check c.args.name.now) c.args.name.now _ _ _ _ c.in_err-image.field-0.0 refl c.in_err-image.ensures (λ bytes why holds refused. (bytes, holds, module_refused CheckSays bytes why refused)))
 
-pub returns-in-Err : goal.returns-in-Err
-returns-in-Err g c =
-    check_refused c.args.name.now _ _ c.read_file.new.out.items c.in-Err.fault c.in-Ok.ensures
-    (subst (λ (file : List ℕ). RefusesFile file c.in-Err.fault) c.deref.ensures.value c.in-Err.ensures.refused)
-
-pub returns-in-Ok-print_image : goal.returns-in-Ok-print_image
-returns-in-Ok-print_image g c =
-    check_done c.args.name.now _ _ _ c.read_file.new.out.items c.in-Ok-accept_file.image c.in-Ok.ensures
-    (subst (λ (file : List ℕ). Accepts file c.in-Ok-accept_file.image) c.deref.ensures.value c.in-Ok-accept_file.ensures.accepted)
-    c.in-Ok-print_image.ensures
+pub returns-in_err-print_image : goal.returns-in_err-print_image
+returns-in_err-print_image g c =
+    let m = c.in_ok-image.image in
+    at_exit (Check c.args.name.now) _ _ Write c.from_residual-in_err-print_image.result c.from_residual-in_err-print_image.ensures.1
+    (one_prints (Check c.args.name.now) c.args.name.now _ _ _ _ _ m (accepted_text m.base m.text m.sites) (Err c.in_err-print_image.field-0.0) refl c.in_ok-image.ensures c.in_err-print_image.ensures (λ bytes holds accepts. (bytes, holds, inr (m, accepts, refl))))
 
 pub returns : goal.returns
 returns g c =
-    check_cut c.args.name.now _ _ _ c.read_file.new.out.items c.in-Ok-accept_file.image c.in-Err-print_image.field-0 c.in-Ok.ensures
-    (subst (λ (file : List ℕ). Accepts file c.in-Ok-accept_file.image) c.deref.ensures.value c.in-Ok-accept_file.ensures.accepted)
-    c.in-Err-print_image.ensures
+    let m = c.in_ok-image.image in
+    one_prints (Check c.args.name.now) c.args.name.now _ _ _ _ _ m (accepted_text m.base m.text m.sites) (Ok tt) refl c.in_ok-image.ensures c.in_ok-print_image.ensures (λ bytes holds accepts. (bytes, holds, inr (m, accepts, refl)))

@@ -1,15 +1,26 @@
-use Rattle.std.proofs.Common.{ℕ, List, Ok, Err, subst}
+use Rattle.std.proofs.Common.{ℕ, List, Ok, Err, refl, subst}
 use Rattle.poke_base.specs.declared.host.WriteFail.{WriteFail}
 use Rattle.poke_base.specs.Host.{Appends}
-use Rattle.poke_tool.proofs.MakeRuns.{file_made, file_not_written}
+use Rattle.poke_tool.specs.declared.fault.Fault.TheVariants.{Write}
+use Rattle.poke_tool.specs.Command.{Make}
+use Rattle.poke_tool.proofs.Asking.{has_read-none}
+use Rattle.poke_tool.proofs.Ways.{at_exit, makes_nothing, makes_said}
 use Rattle.poke_tool.proofs.make.make.Goals as goal
 
-pub returns-in-Ok-append : goal.returns-in-Ok-append
-returns-in-Ok-append g c =
-    file_made c.args.blocks _ _ _ c.args.name.now c.in-Ok.bytes.items c.in-Ok.ensures c.in-Ok-make_file.ensures
-    (subst (λ (piece : List ℕ). Appends {T = Unit {0}} {E = WriteFail} (g.H.Host.outside c.make_file.new.self) (g.H.Host.outside c.append.new.self) piece (Ok tt)) c.deref.ensures.value c.in-Ok-append.ensures)
+pub returns-in_err-make_file : goal.returns-in_err-make_file
+returns-in_err-make_file g c =
+    at_exit (Make c.args.blocks c.args.name.now) _ _ Write c.from_residual-in_err-make_file.result c.from_residual-in_err-make_file.ensures.1
+    (makes_nothing (Make c.args.blocks c.args.name.now) 0 1 _ _ _ c.args.name.now c.in_ok-bytes.bytes.items c.in_err-make_file.field-0.0 refl (has_read-none (Make c.args.blocks c.args.name.now) _) c.in_err-make_file.ensures (c.in_ok-bytes.bytes.items, c.in_ok-bytes.ensures, refl))
+
+pub returns-in_err-append : goal.returns-in_err-append
+returns-in_err-append g c =
+    at_exit (Make c.args.blocks c.args.name.now) _ _ Write c.from_residual-in_err-append.result c.from_residual-in_err-append.ensures.1
+    (makes_said (Make c.args.blocks c.args.name.now) 0 1 _ _ _ _ c.args.name.now c.in_ok-bytes.bytes.items (Err c.in_err-append.field-0.0) refl refl (has_read-none (Make c.args.blocks c.args.name.now) _) c.in_ok-make_file.ensures
+    (subst (λ (piece : List ℕ). Appends {T = Unit {0}} {E = WriteFail} (g.H.Host.outside c.make_file.new.self) (g.H.Host.outside c.append.new.self) piece (Err c.in_err-append.field-0.0)) c.deref.ensures.value c.in_err-append.ensures)
+    (c.in_ok-bytes.bytes.items, c.in_ok-bytes.ensures, refl))
 
 pub returns : goal.returns
 returns g c =
-    file_not_written c.args.blocks _ _ _ c.args.name.now c.in-Ok.bytes.items c.in-Err-append.field-0 c.in-Ok.ensures c.in-Ok-make_file.ensures
-    (subst (λ (piece : List ℕ). Appends {T = Unit {0}} {E = WriteFail} (g.H.Host.outside c.make_file.new.self) (g.H.Host.outside c.append.new.self) piece (Err c.in-Err-append.field-0)) c.deref.ensures.value c.in-Err-append.ensures)
+    makes_said (Make c.args.blocks c.args.name.now) 0 1 _ _ _ _ c.args.name.now c.in_ok-bytes.bytes.items (Ok tt) refl refl (has_read-none (Make c.args.blocks c.args.name.now) _) c.in_ok-make_file.ensures
+    (subst (λ (piece : List ℕ). Appends {T = Unit {0}} {E = WriteFail} (g.H.Host.outside c.make_file.new.self) (g.H.Host.outside c.append.new.self) piece (Ok tt)) c.deref.ensures.value c.in_ok-append.ensures)
+    (c.in_ok-bytes.bytes.items, c.in_ok-bytes.ensures, refl)

@@ -1,49 +1,40 @@
-use Rattle.std.proofs.Common.{ℕ, List, Err, Ok, ap, refl, subst}
+use Rattle.std.proofs.Common.{◌∙◌, ℕ, List, Err, Ok, ap, refl, subst}
 use Rattle.std.specs.List.{flat_map}
 use Rattle.poke_batch.specs.Poke.{Item}
-use Rattle.poke_tool.specs.declared.fault.Fault.TheVariants.{Plan}
+use Rattle.poke_tool.specs.declared.fault.Fault.TheVariants.{Memory, Refused, Write}
+use Rattle.poke_tool.specs.declared.fault.Refusal.{Refusal}
+use Rattle.poke_tool.specs.declared.fault.Refusal.TheVariants.{Plan as PlanRefusal}
 use Rattle.poke_tool.specs.declared.plan_line.PlanRefused.TheVariants.{TooLong}
-use Rattle.poke_tool.specs.Command.{Plan as PlanRow}
+use Rattle.poke_tool.specs.Command.{Plan}
 use Rattle.poke_tool.specs.PlanLine.{PokeLine}
-use Rattle.poke_tool.specs.Plan.{item_line}
-use Rattle.poke_tool.proofs.FileRuns.{file_cut, file_done, file_refused, held_after, held_at_once, long_file}
+use Rattle.poke_tool.specs.Plan.{item_line, to_print}
+use Rattle.poke_tool.specs.Saying.{refuses, says_text}
+use Rattle.poke_tool.proofs.Ways.{at_exit, one_fails, one_lacks, one_prints, one_refused}
 use Rattle.poke_tool.proofs.plan.plan.Goals as goal
 
-pub returns-in-Err-TooLong : goal.returns-in-Err-TooLong
-returns-in-Err-TooLong g c =
-    let reads = rw c.in-Err-TooLong.field-0-is at c.in-Err-TooLong.ensures in
-    let long = long_file _ _ c.args.file.now c.read_file.new.out.items 256 reads in
-    file_refused (PlanRow c.args.file.now) _ _ c.args.file.now c.read_file.new.out.items 256 _ (Plan TooLong) refl reads (λ leaves. leaves) (record { text = long.text; holds = long.holds; says = long.long })
+pub returns-in_err-text : goal.returns-in_err-text
+returns-in_err-text g c =
+    at_exit (Plan c.args.file.now) _ _ c.in_err-text.field-0.0 c.from_residual.result c.from_residual.ensures.1
+    (one_fails (Plan c.args.file.now) c.args.file.now _ _ _ _ c.in_err-text.field-0.0 refl c.in_err-text.ensures (λ bytes why holds refused. (bytes, holds, (Err TooLong, refused.1, ap (λ (w : Refusal). refuses 1 w) refused.0))))
 
-pub returns-in-Err : goal.returns-in-Err
-returns-in-Err g c =
-    file_refused (PlanRow c.args.file.now) _ _ c.args.file.now c.read_file.new.out.items 256 _ (Plan c.in-Err.why) refl c.in-Ok.ensures (λ leaves. leaves)
-    (record {
-      text = c.read_file.new.out.items;
-      holds = held_at_once _ _ c.args.file.now c.read_file.new.out.items 256 c.in-Ok.ensures;
-      says = subst (λ (text : List ℕ). PokeLine text (Err c.in-Err.why)) c.deref.ensures.value c.in-Err.ensures.says;
-    })
+pub returns-in_err-plan : goal.returns-in_err-plan
+returns-in_err-plan g c =
+    let why = c.in_err-plan.field-0.0 in
+    at_exit (Plan c.args.file.now) _ _ (Refused (PlanRefusal why)) c.from_residual-in_err-plan.result c.from_residual-in_err-plan.ensures.1
+    (one_refused (Plan c.args.file.now) c.args.file.now _ _ _ _ c.in_ok-text.text (PlanRefusal why) refl c.in_ok-text.ensures (λ bytes holds is. (bytes, holds, (Err why, subst (λ (text : List ℕ). PokeLine text (Err why)) (c.deref.ensures.value ∙ is.0) c.in_err-plan.ensures.says, refl))))
 
-pub returns-in-Ok-print_poke : goal.returns-in-Ok-print_poke
-returns-in-Ok-print_poke g c =
-    file_done (PlanRow c.args.file.now) _ _ _ c.args.file.now c.read_file.new.out.items _ 256 refl c.in-Ok.ensures c.in-Ok-print_poke.ensures (
-      c.in-Ok-read_plan.plan.change,
-      record {
-        text = c.read_file.new.out.items;
-        holds = held_after _ _ _ c.args.file.now c.read_file.new.out.items _ 256 (Ok tt) c.in-Ok.ensures c.in-Ok-print_poke.ensures;
-        says = subst (λ (text : List ℕ). PokeLine text (Ok c.in-Ok-read_plan.plan.change)) c.deref.ensures.value c.in-Ok-read_plan.ensures.says;
-      },
-      ap (λ (items : List Item). flat_map item_line items) c.in-Ok-open_batch.ensures.in_order,
-    )
+pub returns-in_err-batch : goal.returns-in_err-batch
+returns-in_err-batch g c =
+    at_exit (Plan c.args.file.now) _ _ Memory c.from_residual-in_err-batch.result c.from_residual-in_err-batch.ensures.1
+    (one_lacks (Plan c.args.file.now) c.args.file.now _ _ _ _ c.in_ok-text.text refl c.in_ok-text.ensures)
+
+pub returns-in_err-print_poke : goal.returns-in_err-print_poke
+returns-in_err-print_poke g c =
+    let change = c.in_ok-plan.plan.change in
+    at_exit (Plan c.args.file.now) _ _ Write c.from_residual-in_err-print_poke.result c.from_residual-in_err-print_poke.ensures.1
+    (one_prints (Plan c.args.file.now) c.args.file.now _ _ _ _ _ c.in_ok-text.text (flat_map item_line (to_print c.in_ok-batch.batch.update)) (Err c.in_err-print_poke.field-0.0) refl c.in_ok-text.ensures c.in_err-print_poke.ensures (λ bytes holds is. (bytes, holds, (Ok change, subst (λ (text : List ℕ). PokeLine text (Ok change)) (c.deref.ensures.value ∙ is.0) c.in_ok-plan.ensures.says, ap (λ (items : List Item). says_text 1 (flat_map item_line items)) c.in_ok-batch.ensures.in_order))))
 
 pub returns : goal.returns
 returns g c =
-    file_cut (PlanRow c.args.file.now) _ _ _ c.args.file.now c.read_file.new.out.items _ 256 c.in-Err-print_poke.field-0 refl c.in-Ok.ensures c.in-Err-print_poke.ensures (
-      c.in-Ok-read_plan.plan.change,
-      record {
-        text = c.read_file.new.out.items;
-        holds = held_after _ _ _ c.args.file.now c.read_file.new.out.items _ 256 (Err c.in-Err-print_poke.field-0) c.in-Ok.ensures c.in-Err-print_poke.ensures;
-        says = subst (λ (text : List ℕ). PokeLine text (Ok c.in-Ok-read_plan.plan.change)) c.deref.ensures.value c.in-Ok-read_plan.ensures.says;
-      },
-      ap (λ (items : List Item). flat_map item_line items) c.in-Ok-open_batch.ensures.in_order,
-    )
+    let change = c.in_ok-plan.plan.change in
+    one_prints (Plan c.args.file.now) c.args.file.now _ _ _ _ _ c.in_ok-text.text (flat_map item_line (to_print c.in_ok-batch.batch.update)) (Ok tt) refl c.in_ok-text.ensures c.in_ok-print_poke.ensures (λ bytes holds is. (bytes, holds, (Ok change, subst (λ (text : List ℕ). PokeLine text (Ok change)) (c.deref.ensures.value ∙ is.0) c.in_ok-plan.ensures.says, ap (λ (items : List Item). says_text 1 (flat_map item_line items)) c.in_ok-batch.ensures.in_order)))

@@ -1,41 +1,33 @@
-use Rattle.std.proofs.Common.{ℕ, List, Err, Ok, refl, subst}
-use Rattle.poke_tool.specs.declared.fault.Fault.TheVariants.{Module}
+use Rattle.std.proofs.Common.{◌∙◌, ℕ, List, Err, Ok, ap, refl, subst}
+use Rattle.poke_tool.specs.declared.fault.Fault.TheVariants.{Refused, Write}
+use Rattle.poke_tool.specs.declared.fault.Refusal.{Refusal}
+use Rattle.poke_tool.specs.declared.fault.Refusal.TheVariants.{Module}
 use Rattle.poke_tool.specs.declared.module_fault.ModuleRefused.TheVariants.{TooLong}
-use Rattle.poke_tool.specs.Command.{Show as ShowRow}
-use Rattle.poke_tool.specs.Module.{ModuleShows, module_limit}
+use Rattle.poke_tool.specs.Command.{Show}
+use Rattle.poke_tool.specs.Module.{ModuleShows}
+use Rattle.poke_tool.specs.Saying.{refuses}
 use Rattle.poke_tool.specs.Tables.{tables_text}
-use Rattle.poke_tool.proofs.FileRuns.{file_cut, file_done, file_refused, held_after, held_at_once, long_file}
+use Rattle.poke_tool.proofs.Ways.{at_exit, one_fails, one_prints, one_refused}
 use Rattle.poke_tool.proofs.show.show.Goals as goal
 
-pub returns-in-Err-TooLong : goal.returns-in-Err-TooLong
-returns-in-Err-TooLong g c =
-    let reads = rw c.in-Err-TooLong.field-0-is at c.in-Err-TooLong.ensures in
-    let long = long_file _ _ c.args.name.now c.read_file.new.out.items module_limit reads in
-    file_refused (ShowRow c.args.name.now) _ _ c.args.name.now c.read_file.new.out.items module_limit _ (Module TooLong) refl reads (λ leaves. leaves) (record { file = long.text; holds = long.holds; says = long.long })
+pub returns-in_err-bytes : goal.returns-in_err-bytes
+returns-in_err-bytes g c =
+    at_exit (Show c.args.name.now) _ _ c.in_err-bytes.field-0.0 c.from_residual.result c.from_residual.ensures.1
+    (one_fails (Show c.args.name.now) c.args.name.now _ _ _ _ c.in_err-bytes.field-0.0 refl c.in_err-bytes.ensures (λ bytes why holds refused. (bytes, holds, (Err TooLong, refused.1, ap (λ (w : Refusal). refuses 1 w) refused.0))))
 
-pub returns-in-Err : goal.returns-in-Err
-returns-in-Err g c =
-    file_refused (ShowRow c.args.name.now) _ _ c.args.name.now c.read_file.new.out.items module_limit _ (Module c.in-Err.why) refl c.in-Ok.ensures (λ leaves. leaves)
-    (record {
-      file = c.read_file.new.out.items;
-      holds = held_at_once _ _ c.args.name.now c.read_file.new.out.items module_limit c.in-Ok.ensures;
-      says = subst (λ (file : List ℕ). ModuleShows file (Err c.in-Err.why)) c.deref.ensures.value c.in-Err.ensures.says;
-    })
+pub returns-in_err-tables : goal.returns-in_err-tables
+returns-in_err-tables g c =
+    let why = c.in_err-tables.field-0.0 in
+    at_exit (Show c.args.name.now) _ _ (Refused (Module why)) c.from_residual-in_err-tables.result c.from_residual-in_err-tables.ensures.1
+    (one_refused (Show c.args.name.now) c.args.name.now _ _ _ _ c.in_ok-bytes.bytes (Module why) refl c.in_ok-bytes.ensures (λ bytes holds is. (bytes, holds, (Err why, subst (λ (file : List ℕ). ModuleShows file (Err why)) (c.deref.ensures.value ∙ is.0) c.in_err-tables.ensures.says, refl))))
 
-pub returns-in-Ok-print_tables : goal.returns-in-Ok-print_tables
-returns-in-Ok-print_tables g c =
-    file_done (ShowRow c.args.name.now) _ _ _ c.args.name.now c.read_file.new.out.items _ module_limit refl c.in-Ok.ensures c.in-Ok-print_tables.ensures
-    (record {
-      file = c.read_file.new.out.items;
-      holds = held_after _ _ _ c.args.name.now c.read_file.new.out.items _ module_limit (Ok tt) c.in-Ok.ensures c.in-Ok-print_tables.ensures;
-      says = subst (λ (file : List ℕ). ModuleShows file (Ok (tables_text c.in-Ok-read_tables.tables))) c.deref.ensures.value c.in-Ok-read_tables.ensures.says;
-    })
+pub returns-in_err-print_tables : goal.returns-in_err-print_tables
+returns-in_err-print_tables g c =
+    let text = tables_text c.in_ok-tables.tables in
+    at_exit (Show c.args.name.now) _ _ Write c.from_residual-in_err-print_tables.result c.from_residual-in_err-print_tables.ensures.1
+    (one_prints (Show c.args.name.now) c.args.name.now _ _ _ _ _ c.in_ok-bytes.bytes text (Err c.in_err-print_tables.field-0.0) refl c.in_ok-bytes.ensures c.in_err-print_tables.ensures (λ bytes holds is. (bytes, holds, (Ok text, subst (λ (file : List ℕ). ModuleShows file (Ok text)) (c.deref.ensures.value ∙ is.0) c.in_ok-tables.ensures.says, refl))))
 
 pub returns : goal.returns
 returns g c =
-    file_cut (ShowRow c.args.name.now) _ _ _ c.args.name.now c.read_file.new.out.items _ module_limit c.in-Err-print_tables.field-0 refl c.in-Ok.ensures c.in-Err-print_tables.ensures
-    (record {
-      file = c.read_file.new.out.items;
-      holds = held_after _ _ _ c.args.name.now c.read_file.new.out.items _ module_limit (Err c.in-Err-print_tables.field-0) c.in-Ok.ensures c.in-Err-print_tables.ensures;
-      says = subst (λ (file : List ℕ). ModuleShows file (Ok (tables_text c.in-Ok-read_tables.tables))) c.deref.ensures.value c.in-Ok-read_tables.ensures.says;
-    })
+    let text = tables_text c.in_ok-tables.tables in
+    one_prints (Show c.args.name.now) c.args.name.now _ _ _ _ _ c.in_ok-bytes.bytes text (Ok tt) refl c.in_ok-bytes.ensures c.in_ok-print_tables.ensures (λ bytes holds is. (bytes, holds, (Ok text, subst (λ (file : List ℕ). ModuleShows file (Ok text)) (c.deref.ensures.value ∙ is.0) c.in_ok-tables.ensures.says, refl)))

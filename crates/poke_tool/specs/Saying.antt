@@ -1,0 +1,107 @@
+-- What the files of a command say of what it does.
+use Rattle.std.specs.Prelude.{◌≡◌, ◌⊎◌, ℕ, List, [], Option, Some, None, Result, Ok, Err}
+use Rattle.std.specs.FinMap.{get}
+use Rattle.poke_base.specs.Host.{Files, Outside}
+use Rattle.insn_forms.specs.declared.forms.Change.{Change}
+use Rattle.elf_build.specs.declared.plan.Plan.{Plan}
+use Rattle.elf_build.specs.File.{file_of}
+use Rattle.elf_build.specs.Generated.{IsGenerated}
+use Rattle.module_image.specs.Module.{Module}
+use Rattle.poke_tool.specs.declared.fault.Refusal.{Refusal}
+use Rattle.poke_tool.specs.declared.fault.Refusal.TheVariants.{Module as ModuleRefusal, Plan as PlanRefusal}
+use Rattle.poke_tool.specs.declared.module_fault.ModuleRefused.{ModuleRefused}
+use Rattle.poke_tool.specs.declared.plan_line.PlanRefused.{PlanRefused}
+use Rattle.poke_tool.specs.Check.{Accepts, RefusesModule, accepted_text}
+use Rattle.poke_tool.specs.Command as command
+use Rattle.poke_tool.specs.Command.{Row}
+use Rattle.poke_tool.specs.Fault.{refusal_status}
+use Rattle.poke_tool.specs.Module.{ModuleShows}
+use Rattle.poke_tool.specs.Plan.{poke_text}
+use Rattle.poke_tool.specs.PlanLine.{PokeLine}
+
+-- what a command's files say: what is printed, the file that is made with what it then holds, why the command is
+-- refused after that, if it is, and how many of its file words it asks for
+pub record Saying : Type 0 where
+  pub text : List ℕ
+  pub makes : Option (List ℕ × List ℕ)
+  pub refused : Option Refusal
+  pub asks : ℕ
+
+-- a text is printed
+abbrev pub says_text : ℕ → List ℕ → Saying
+says_text n text = record { text = text; makes = None; refused = None; asks = n }
+
+-- a file is made
+abbrev pub says_file : ℕ → List ℕ → List ℕ → Saying
+says_file n name bytes = record { text = []; makes = Some (name, bytes); refused = None; asks = n }
+
+-- the command is refused, and nothing is printed or made before
+abbrev pub refuses : ℕ → Refusal → Saying
+refuses n why = record { text = []; makes = None; refused = Some why; asks = n }
+
+-- the status of a command where no read and no write fails and there is memory
+abbrev pub refused_status : Option Refusal → ℕ
+refused_status None = 0
+refused_status (Some why) = refusal_status why
+
+abbrev pub saying_status : Saying → ℕ
+saying_status s = refused_status s.refused
+
+-- the files as they were before, where they are still told after
+abbrev pub where_told : Option Files → Option Files → Option Files
+where_told before None = None
+where_told before (Some after) = before
+
+abbrev pub told_before : Outside → Outside → Option Files
+told_before old new = where_told old.files new.files
+
+-- a file holds these bytes, where the files are told
+abbrev pub Holds : Option Files → List ℕ → List ℕ → Type 0
+Holds told name bytes = (files : Files) → told ≡ Some files → get files name ≡ Some bytes
+
+-- a file says this by the bytes that it holds
+abbrev pub FileSays : (List ℕ → Saying → Type 0) → Option Files → List ℕ → Saying → Type 0
+FileSays P told name s = (bytes : List ℕ) × Holds told name bytes × P bytes s
+
+-- bytes say this as a module: why they aren't accepted as one, or what that module says
+abbrev pub ModuleSays : (Module → Saying → Type 0) → List ℕ → Saying → Type 0
+ModuleSays P bytes s =
+    ((why : ModuleRefused) × RefusesModule bytes why × (s ≡ refuses 1 (ModuleRefusal why)))
+    ⊎ ((m : Module) × Accepts bytes m × P m s)
+
+-- what a plan file says: the poke of its change, or why it is refused
+abbrev pub plan_saying : Result Change PlanRefused → Saying
+plan_saying (Ok change) = says_text 1 (poke_text change)
+plan_saying (Err why) = refuses 1 (PlanRefusal why)
+
+abbrev pub PlanSays : List ℕ → Saying → Type 0
+PlanSays bytes s = (read : Result Change PlanRefused) × PokeLine bytes read × (s ≡ plan_saying read)
+
+-- what is shown of a file: the entries of its tables, or why it is refused
+abbrev pub show_saying : Result (List ℕ) ModuleRefused → Saying
+show_saying (Ok text) = says_text 1 text
+show_saying (Err why) = refuses 1 (ModuleRefusal why)
+
+abbrev pub ShowSays : List ℕ → Saying → Type 0
+ShowSays bytes s = (shown : Result (List ℕ) ModuleRefused) × ModuleShows bytes shown × (s ≡ show_saying shown)
+
+-- what is printed of an accepted module: its text and sites
+abbrev pub CheckSays : Module → Saying → Type 0
+CheckSays m s = s ≡ says_text 1 (accepted_text m.base m.text m.sites)
+
+-- the bytes are those of the module with n blocks
+pub record IsModuleOf (n : ℕ) (bytes : List ℕ) : Type 0 where
+  pub plan : Plan
+  pub generated : IsGenerated n plan
+  pub bytes_are : bytes ≡ file_of plan
+
+-- `make` reads no file, and makes the one with the module of n blocks
+abbrev pub MakeSays : ℕ → List ℕ → Saying → Type 0
+MakeSays n name s = (bytes : List ℕ) × IsModuleOf n bytes × (s ≡ says_file 1 name bytes)
+
+-- what the files of a command say
+abbrev pub Says : Row → Option Files → Saying → Type 0
+Says (command.Plan file) told s = FileSays PlanSays told file s
+Says (command.Show module_file) told s = FileSays ShowSays told module_file s
+Says (command.Check module_file) told s = FileSays (ModuleSays CheckSays) told module_file s
+Says (command.Make n file) told s = MakeSays n file s
