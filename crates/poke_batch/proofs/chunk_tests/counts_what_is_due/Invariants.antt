@@ -2,4 +2,4 @@ use Rattle.std.proofs.Common.{◌≡◌}
 use Rattle.poke_batch.proofs.chunk_tests.counts_what_is_due.Given as goal
 
 abbrev pub invariant-events : goal.invariant-events
-invariant-events l = l.batch.cpus ≡ 16
+invariant-events g l = l.batch.cpus ≡ 16
