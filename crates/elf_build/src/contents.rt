@@ -5,7 +5,9 @@ ghost use Rattle.elf_build.specs.File.{data_of, entry_bytes, filled, function_sy
 
 use crate::gabi::{GLOBAL_FUNC, GLOBAL_OBJECT};
 use crate::sections::{DATA_SECTION, TEXT_SECTION, symbol};
-use crate::tables::{KEY_SIZE, PlanTable, call_record, data_at, jump_record, start_record, table_at};
+use crate::tables::{
+    KEY_SIZE, PlanTable, call_record, data_at, jump_record, start_record, table_at,
+};
 use crate::{Name, Plan, PlanFunction, PlanKey, PlanSite};
 use poke_base::NoMemory;
 

@@ -4,8 +4,8 @@ ghost use Rattle.elf_build.specs.File.{elf_header, header_of, loaded_header, sec
 
 use crate::Plan;
 use crate::gabi::{
-    EHDR_SIZE, ELFCLASS64, ELFDATA2LSB, EM_X86_64, ET_EXEC, EV_CURRENT, SHDR_SIZE, SHF_ALLOC, SHF_EXECINSTR,
-    SHF_WRITE, SHT_PROGBITS, SHT_STRTAB, SHT_SYMTAB, SYM_SIZE,
+    EHDR_SIZE, ELFCLASS64, ELFDATA2LSB, EM_X86_64, ET_EXEC, EV_CURRENT, SHDR_SIZE, SHF_ALLOC,
+    SHF_EXECINSTR, SHF_WRITE, SHT_PROGBITS, SHT_STRTAB, SHT_SYMTAB, SYM_SIZE,
 };
 use crate::put::{Record, put, put_u16, put_u32, put_u64};
 use crate::tables::{PlanTable, data_at, table_at};
@@ -94,9 +94,21 @@ impl Header {
     {
         match part {
             Part::Text => Header::loaded(1, SHF_ALLOC | SHF_EXECINSTR, plan.base),
-            Part::Entries(PlanTable::Jumps) => Header::loaded(7, SHF_ALLOC | SHF_WRITE, table_at(plan, PlanTable::Jumps)),
-            Part::Entries(PlanTable::Calls) => Header::loaded(20, SHF_ALLOC | SHF_WRITE, table_at(plan, PlanTable::Calls)),
-            Part::Entries(PlanTable::Traces) => Header::loaded(39, SHF_ALLOC, table_at(plan, PlanTable::Traces)),
+            Part::Entries(PlanTable::Jumps) => Header::loaded(
+                7,
+                SHF_ALLOC | SHF_WRITE,
+                table_at(plan, PlanTable::Jumps),
+            ),
+            Part::Entries(PlanTable::Calls) => Header::loaded(
+                20,
+                SHF_ALLOC | SHF_WRITE,
+                table_at(plan, PlanTable::Calls),
+            ),
+            Part::Entries(PlanTable::Traces) => Header::loaded(
+                39,
+                SHF_ALLOC,
+                table_at(plan, PlanTable::Traces),
+            ),
             Part::Data => Header::loaded(52, SHF_ALLOC | SHF_WRITE, data_at(plan)),
             Part::Symbols => Header {
                 name: 58,
@@ -141,7 +153,16 @@ pub fn elf_header(shoff: u64) -> Record
     let mut out = Record::new();
     put(
         &mut out,
-        &[0x7f, b'E', b'L', b'F', ELFCLASS64, ELFDATA2LSB, EV_CURRENT, 0],
+        &[
+            0x7f,
+            b'E',
+            b'L',
+            b'F',
+            ELFCLASS64,
+            ELFDATA2LSB,
+            EV_CURRENT,
+            0,
+        ],
     );
     put_u64(&mut out, 0);
     put_u16(&mut out, ET_EXEC);
