@@ -15,7 +15,7 @@ use Rattle.elf_build.specs.declared.plan.PlanKey.{PlanKey}
 use Rattle.elf_build.specs.Fits.{site_fits, is_in_text, is_switch, is_callee}
 use Rattle.elf_build.specs.File.{entry_bytes, key_at, flag, table_at, table_bytes, parts}
 use Rattle.site_tables.specs.Tables.{table_in}
-use Rattle.written_module.specs.Written.{jump_of, call_of, trace_of, jumps_of, calls_of, traces_of, no_section, section_of_part, sections_from}
+use Rattle.written_module.specs.Written.{jump_of, call_of, trace_of, file_jumps, file_calls, file_traces, no_section, section_of_part, sections_from}
 use Rattle.site_tables.specs.Tables.{entries_in}
 use Rattle.written_module.proofs.Fields.{field-drop, field-prefix}
 use Rattle.written_module.proofs.Bounds.{Bounds}
@@ -192,7 +192,7 @@ module _ (plan : Plan) where
 -- the three tables are read as the plan's sites
 module _ (plan : Plan) (ok : Bounds plan) (file : List ℕ) (read : sections_of file ≡ no_section ∷ sections_from plan 1 parts) where
   -- the jump table
-  pub jumps-read : jumps_of file ≡ flat_map (jump_of plan) plan.sites.items
+  pub jumps-read : file_jumps file ≡ flat_map (jump_of plan) plan.sites.items
   jumps-read =
       let few = ok.sites in
       let table : table_in (sections_of file) JumpTable ≡ Some (section_of_part plan 2 (Entries Jumps)) = ap (λ sections. table_in sections JumpTable) read ∙ jump-table plan in
@@ -203,7 +203,7 @@ module _ (plan : Plan) (ok : Bounds plan) (file : List ℕ) (read : sections_of 
       (λ i. jump-moved (table_at Jumps plan) (table_at Jumps plan + 16 * (0 + i)) (16 * i) (table_bytes Jumps plan) (omega arith))
 
   -- the static call sites
-  pub calls-read : calls_of file ≡ flat_map (call_of plan) plan.sites.items
+  pub calls-read : file_calls file ≡ flat_map (call_of plan) plan.sites.items
   calls-read =
       let few = ok.sites in
       let table : table_in (sections_of file) CallTable ≡ Some (section_of_part plan 3 (Entries Calls)) = ap (λ sections. table_in sections CallTable) read ∙ call-table plan in
@@ -214,7 +214,7 @@ module _ (plan : Plan) (ok : Bounds plan) (file : List ℕ) (read : sections_of 
       (λ i. call-moved (table_at Calls plan) (table_at Calls plan + 8 * (0 + i)) (8 * i) (table_bytes Calls plan) (omega arith))
 
   -- the trace table
-  pub traces-read : traces_of file ≡ flat_map trace_of plan.sites.items
+  pub traces-read : file_traces file ≡ flat_map trace_of plan.sites.items
   traces-read =
       let few = ok.sites in
       let table : table_in (sections_of file) TraceTable ≡ Some (section_of_part plan 4 (Entries Traces)) = ap (λ sections. table_in sections TraceTable) read ∙ trace-table plan in

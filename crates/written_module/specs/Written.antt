@@ -81,14 +81,14 @@ trace_of (Jump at target key likely) = []
 trace_of (Call at key tail) = []
 trace_of (Trace at) = at ∷ []
 
-abbrev pub jumps_of : List ℕ → List JumpEntry
-jumps_of file = jumps_in (sections_of file)
+abbrev pub file_jumps : List ℕ → List JumpEntry
+file_jumps file = jumps_in (sections_of file)
 
-abbrev pub calls_of : List ℕ → List CallSite
-calls_of file = calls_in (sections_of file)
+abbrev pub file_calls : List ℕ → List CallSite
+file_calls file = calls_in (sections_of file)
 
-abbrev pub traces_of : List ℕ → List ℕ
-traces_of file = traces_in (sections_of file)
+abbrev pub file_traces : List ℕ → List ℕ
+file_traces file = traces_in (sections_of file)
 
 -- how many bytes a module file may have
 abbrev pub module_limit : ℕ
@@ -100,9 +100,9 @@ pub record ReadsBack (plan : Plan) : Type 0 where
   pub within : length (file_of plan) ≤ module_limit
   pub passes : Passes (file_of plan) 13
   pub sections : sections_of (file_of plan) ≡ no_section ∷ sections_from plan 1 parts
-  pub jumps : jumps_of (file_of plan) ≡ flat_map (jump_of plan) plan.sites.items
-  pub calls : calls_of (file_of plan) ≡ flat_map (call_of plan) plan.sites.items
-  pub traces : traces_of (file_of plan) ≡ flat_map trace_of plan.sites.items
+  pub jumps : file_jumps (file_of plan) ≡ flat_map (jump_of plan) plan.sites.items
+  pub calls : file_calls (file_of plan) ≡ flat_map (call_of plan) plan.sites.items
+  pub traces : file_traces (file_of plan) ≡ flat_map trace_of plan.sites.items
   pub symbols : symbols_of (file_of plan) ≡ no_symbol ∷ map function_symbol plan.functions.items ++ key_symbols_from (data_at plan) plan.keys.items
   pub keys : (i : ℕ) (key : PlanKey) (j : ℕ) → slice_get plan.keys.items i ≡ Some key → j < key_size
       → loaded (sections_of (file_of plan)) (key_at plan i + j) ≡ Some (slice_index (start_bytes key.start) j)
