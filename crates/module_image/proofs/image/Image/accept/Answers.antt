@@ -1,4 +1,5 @@
 use Rattle.std.proofs.Common.{◌≡◌, ◌∙◌, List, ℕ, ap, length, subst, sym}
+use Rattle.std.proofs.lemmas.Result.{err_from_is_err_and}
 use Rattle.module_image.specs.declared.site.Site.{Site}
 use Rattle.module_image.specs.Layout.{laid, layout}
 use Rattle.module_image.specs.Sites.{sites, text}
@@ -30,7 +31,11 @@ invariant_of-result c =
     }
 
 pub returns-in_err-tracer_missing-clause-refused : goal.returns-in_err-tracer_missing-clause-refused
-returns-in_err-tracer_missing-clause-refused c = ?
+returns-in_err-tracer_missing-clause-refused c =
+    let p = err_from_is_err_and c.from_residual-in_err-tracer_missing.result c.from_residual-in_err-tracer_missing.ensures.1 in
+    rw (p.1, p.2) c.in_err-tracer_missing.ensures
 
 pub returns-in_err-swept-clause-refused : goal.returns-in_err-swept-clause-refused
-returns-in_err-swept-clause-refused c = ?
+returns-in_err-swept-clause-refused c =
+    let p = err_from_is_err_and c.from_residual-in_err-swept.result c.from_residual-in_err-swept.ensures.1 in
+    rw (p.1, p.2) c.in_err-swept.ensures.tried
