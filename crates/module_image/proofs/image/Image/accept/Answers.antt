@@ -1,4 +1,5 @@
 use Rattle.std.proofs.Common.{◌≡◌, ◌∙◌, List, ℕ, ap, arith, length, rules, sym}
+use Rattle.std.proofs.lemmas.Result.{err_from_is_err_and}
 use Rattle.module_image.specs.declared.site.Site.{Site}
 use Rattle.module_image.specs.Layout.{laid, layout}
 use Rattle.module_image.specs.Module.{IsModule}
@@ -40,3 +41,13 @@ invariant_of-result c =
       named_call_keys = search rules;
     })
     (found_marks c.args.file.now at bytes list c.in_ok-swept.swept.marks.items same swept.marks) c.get-tracer.ensures
+
+pub returns-in_err-tracer_missing-clause-refused : goal.returns-in_err-tracer_missing-clause-refused
+returns-in_err-tracer_missing-clause-refused c =
+    let p = err_from_is_err_and c.from_residual-in_err-tracer_missing.result c.from_residual-in_err-tracer_missing.ensures.1 in
+    rw (p.1, p.2) c.in_err-tracer_missing.ensures
+
+pub returns-in_err-swept-clause-refused : goal.returns-in_err-swept-clause-refused
+returns-in_err-swept-clause-refused c =
+    let p = err_from_is_err_and c.from_residual-in_err-swept.result c.from_residual-in_err-swept.ensures.1 in
+    rw (p.1, p.2) c.in_err-swept.ensures.tried
