@@ -2,7 +2,7 @@
 ghost use Rattle.std.specs.Prelude.{◌≡◌, IfOk};
 ghost use Rattle.module_image.specs.declared.key.KeyClass.TheVariants.{Jump, Call};
 ghost use Rattle.module_image.specs.Keys.{key_addresses, keys};
-ghost use Rattle.module_image.specs.Refusals.{Passes, Tries, past_site_overlap};
+ghost use Rattle.module_image.specs.Refusals.{Passes, Tries, past_site_overlap, past_key_state};
 
 use crate::key_list::KeyAddresses;
 use crate::key_starts::read_keys;
@@ -60,10 +60,10 @@ pub fn find_keys(
     file: &ElfFile<'_>,
     addresses: &KeyAddresses,
 ) -> Result<Vec<Key>, Refused>
-    requires passed { Passes file.now 8 }
+    requires passed { Passes file.now past_site_overlap }
     requires jumps { addresses.now.jumps.items ≡ key_addresses file.now Jump }
     requires calls { addresses.now.calls.items ≡ key_addresses file.now Call }
-    ensures tried { Tries file.now 10 result }
+    ensures tried { Tries file.now past_key_state result }
     ensures found { IfOk result (λ found. found.items ≡ keys file.now) }
 {
     let found = read_keys(alloc, file, addresses)?;

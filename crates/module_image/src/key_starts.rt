@@ -4,7 +4,7 @@ ghost use Rattle.std.specs.List.{range_with_len};
 ghost use Rattle.std.specs.Option.{unwrap_or};
 ghost use Rattle.module_image.specs.Keys.{IsUnloaded, key_addresses, key_of, keys};
 ghost use Rattle.module_image.specs.KeyStarts.{start_in};
-ghost use Rattle.module_image.specs.Refusals.{Passes, Tries};
+ghost use Rattle.module_image.specs.Refusals.{Passes, Tries, past_key_outside, past_site_overlap};
 ghost use Rattle.module_image.specs.declared.key.KeyClass.TheVariants.{Jump, Call};
 
 use crate::key_list::KeyAddresses;
@@ -23,10 +23,10 @@ pub fn read_keys(
     file: &ElfFile<'_>,
     addresses: &KeyAddresses,
 ) -> Result<Vec<Key>, Refused>
-    requires passed { Passes file.now 8 }
+    requires passed { Passes file.now past_site_overlap }
     requires jumps { addresses.now.jumps.items ≡ key_addresses file.now Jump }
     requires calls { addresses.now.calls.items ≡ key_addresses file.now Call }
-    ensures tried { Tries file.now 9 result }
+    ensures tried { Tries file.now past_key_outside result }
     ensures found { IfOk result (λ found. found.items ≡ keys file.now) }
 {
     let mut found = Vec::new(alloc);

@@ -4,7 +4,7 @@ ghost use Rattle.std.specs.Prelude.{◌≡◌, ◌≤◌, ◌<◌, ◌+◌, ◌^
 ghost use Rattle.module_image.specs.Entries.{entries, length_at};
 ghost use Rattle.module_image.specs.Keys.{keys};
 ghost use Rattle.module_image.specs.Names.{tracer};
-ghost use Rattle.module_image.specs.Refusals.{HasBadState, IsBadLength, IsOutOfReach, IsOutsideOf, IsTrace, Passes, Tries, past_key_state, past_no_reach, past_site_count, past_site_length, past_site_outside, past_table, room_of};
+ghost use Rattle.module_image.specs.Refusals.{HasBadState, IsBadLength, IsOutOfReach, IsOutsideOf, IsTrace, Passes, Tries, past_key_state, past_no_reach, past_site_count, past_site_length, past_site_outside, past_table, room_of, past_key_outside, past_tracer_missing};
 ghost use Rattle.module_image.specs.Sites.{sites};
 ghost use Rattle.module_image.specs.Text.{IsText};
 
@@ -75,9 +75,9 @@ pub fn sites_length(file: &ElfFile<'_>, text: &Text<'_>, list: &[Entry]) -> Resu
 /// # Errors
 /// `KeyState` at the first.
 pub fn keys_state(file: &ElfFile<'_>, found: &[Key]) -> Result<(), Refused>
-    requires passed { Passes file.now 9 }
+    requires passed { Passes file.now past_key_outside }
     requires keys { found.now ≡ keys file.now }
-    ensures { Tries file.now 10 result }
+    ensures { Tries file.now past_key_state result }
 {
     for key in found {
         if has_bad_state(key) {
@@ -113,10 +113,10 @@ pub fn tracer_missing(
     found: &[Site],
     function: Option<u64>,
 ) -> Result<(), Refused>
-    requires passed { Passes file.now 11 }
+    requires passed { Passes file.now past_no_reach }
     requires sites { found.now ≡ sites file.now }
     requires tracer { function ≡ tracer file.now }
-    ensures { Tries file.now 12 result }
+    ensures { Tries file.now past_tracer_missing result }
 {
     if function.is_some() {
         return Ok(());

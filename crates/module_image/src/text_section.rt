@@ -2,7 +2,7 @@
 ghost use Rattle.std.specs.Prelude.{◌≡◌, ◌<◌, ◌≤◌, ◌↔◌, ◌^◌, length, slice_get, Some, IsTrue, IfOk};
 ghost use Rattle.elf_module.specs.Elf.{section_of};
 ghost use Rattle.module_image.specs.Entries.{text_section, text_sections};
-ghost use Rattle.module_image.specs.Refusals.{HasBadSize, Passes, Tries};
+ghost use Rattle.module_image.specs.Refusals.{HasBadSize, Passes, Tries, past_text_count, past_text_size};
 ghost use Rattle.module_image.specs.Tables.{is_text_in};
 ghost use Rattle.module_image.specs.Text.{IsText};
 
@@ -21,7 +21,7 @@ const MOST_BYTES: usize = 65_536;
 /// `TextCount` where there isn't exactly one; `TextSize` where it is empty, longer than 65,536 bytes, or
 /// reaches past the last address.
 pub fn find_text<'a>(file: &ElfFile<'a>) -> Result<Text<'a>, Refused>
-    ensures tried { Tries file.now 3 result }
+    ensures tried { Tries file.now past_text_size result }
     ensures found { IfOk result (IsText file.now) }
 {
     let section = only_text(file)?;
@@ -33,7 +33,7 @@ pub fn find_text<'a>(file: &ElfFile<'a>) -> Result<Text<'a>, Refused>
 /// # Errors
 /// `TextCount` where there isn't exactly one.
 fn only_text<'a>(file: &ElfFile<'a>) -> Result<Section<'a>, Refused>
-    ensures tried { Tries file.now 2 result }
+    ensures tried { Tries file.now past_text_count result }
     ensures found { IfOk result (λ section. Some (section_of section) ≡ text_section file.now) }
     ensures sized { IfOk result (λ section. length section.content.now ≤ section.size) }
 {
@@ -70,10 +70,10 @@ fn is_text(file: &ElfFile<'_>, i: u16) -> bool
 /// # Errors
 /// `TextSize` where it is empty, longer than 65,536 bytes, or reaches past the last address.
 fn fitting_text<'a>(file: &ElfFile<'_>, section: &Section<'a>) -> Result<Text<'a>, Refused>
-    requires passed { Passes file.now 2 }
+    requires passed { Passes file.now past_text_count }
     requires found { Some (section_of section.now) ≡ text_section file.now }
     requires sized { length section.now.content.now ≤ section.now.size }
-    ensures tried { Tries file.now 3 result }
+    ensures tried { Tries file.now past_text_size result }
     ensures found { IfOk result (IsText file.now) }
 {
     if has_bad_size(section) {

@@ -1,8 +1,11 @@
-use Rattle.std.proofs.Common.{◌≡◌, ◌∙◌, List, ℕ, ap, arith, length, rules, sym}
+use Rattle.std.proofs.Common.{◌≡◌, ◌∙◌, List, ℕ, ap, arith, length, sym}
 use Rattle.std.proofs.lemmas.Result.{err_from_is_err_and}
 use Rattle.module_image.specs.declared.site.Site.{Site}
+use Rattle.module_image.specs.declared.key.KeyClass.TheVariants.{Jump}
+use Rattle.module_image.specs.Keys.{key_addresses}
 use Rattle.module_image.specs.Layout.{laid, layout}
 use Rattle.module_image.specs.Module.{IsModule}
+use Rattle.module_image.specs.Names.{functions_from, keys_from, value_of}
 use Rattle.module_image.specs.Sites.{sites, text}
 use Rattle.module_image.proofs.Lent.{sound_of}
 use Rattle.module_image.proofs.Sound.{found_aims, found_marks}
@@ -16,6 +19,7 @@ pub invariant_of-result : goal.invariant_of-result
 invariant_of-result c =
     let found = c.in_ok-found.ensures.found in
     let swept = c.in_ok-swept.ensures.swept in
+    let names = c.in_ok-names.ensures.names in
     let at = c.in_ok-found.found.text.base in
     let bytes = c.in_ok-swept.swept.text.items in
     let list = c.in_ok-found.found.sites.items in
@@ -36,9 +40,12 @@ invariant_of-result c =
       has_keys = c.in_ok-keys.ensures.found;
       swept = swept.units;
       leads = swept.leads;
-      named_functions = search rules;
-      named_jump_keys = search rules;
-      named_call_keys = search rules;
+      named_functions = λ q. names.functions q ∙ ap (λ (i : ℕ). value_of q (functions_from i c.args.file.now.symbols)) found.is_text.index;
+      named_jump_keys = λ q. names.jump_keys q ∙ ap (λ (ks : List ℕ). value_of q (keys_from 0 ks c.args.file.now.symbols)) found.jumps;
+      named_call_keys = λ q.
+          names.call_keys q
+          ∙ ap (λ (n : ℕ). value_of q (keys_from n c.in_ok-found.found.addresses.calls.items c.args.file.now.symbols)) (ap length found.jumps)
+          ∙ ap (λ (ks : List ℕ). value_of q (keys_from (length (key_addresses c.args.file.now Jump)) ks c.args.file.now.symbols)) found.calls;
     })
     (found_marks c.args.file.now at bytes list c.in_ok-swept.swept.marks.items same swept.marks) c.get-tracer.ensures
 
