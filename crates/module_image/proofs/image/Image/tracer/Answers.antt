@@ -11,5 +11,5 @@ use Rattle.module_image.proofs.image.Image.tracer.Goals as goal
 pub returns-clause-place : goal.returns-clause-place
 returns-clause-place c =
     let accepted = c.self.invariant.is in
-    subst (λ (m : Module). MatchOption c.get.result (HasNone IsTrace m.sites) (IsPlaceOf m)) c.self.view_is
-    (tracer_place accepted.elf (module_of c.self.inside) c.get.result accepted.is c.get.ensures)
+    subst (λ (m : Module). MatchOption c.self.inside.tracer (HasNone IsTrace m.sites) (IsPlaceOf m)) c.self.view_is
+    (tracer_place accepted.elf (module_of c.self.inside) c.self.inside.tracer accepted.is c.self.invariant.tracer)
