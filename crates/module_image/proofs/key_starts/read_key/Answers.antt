@@ -10,8 +10,7 @@ returns-then-is_one_missing c =
 
 pub returns : goal.returns
 returns c =
-    let made : ℕ → Key = λ start. record { class = c.args.class; at = c.args.at; start = start } in
-    (
-    ap made (started c.args.file.now.sections c.args.class c.args.at c.start_of.result c.load_16-bytes.result c.load_16-bytes.ensures c.start_of.ensures),
-    loaded_whole c.args.file.now.sections c.args.at c.load_16-bytes.result c.load_16-bytes.ensures (c.is_one_missing.ensures.whole c.if-is_one_missing.false),
+    let made : ℕ → Key = λ start. record { class = c.args.class; at = c.args.at; start = start } in (
+      ap made (started c.args.file.now.sections c.args.class c.args.at c.start_of.result c.load_16-bytes.result c.load_16-bytes.ensures c.start_of.ensures),
+      loaded_whole c.args.file.now.sections c.args.at c.load_16-bytes.result c.load_16-bytes.ensures (c.is_one_missing.ensures.whole c.if-is_one_missing.false),
     )
