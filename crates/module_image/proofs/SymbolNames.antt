@@ -1,15 +1,14 @@
 -- What symbols name, one after the other.
-use Rattle.std.proofs.Common.{◌≡◌, ◌<◌, ◌≤◌, ◌+◌, ◌∙◌, ℕ, Bool, true, false, List, [], ◌∷◌, ◌++◌, length, map, drop, get_or, Option, Some, None, if◌then◌else◌, refl, sym, ap, subst, arith, append_assoc}
+use Rattle.std.proofs.Common.{◌≡◌, ◌<◌, ◌≤◌, ◌+◌, ◌∙◌, ℕ, Bool, true, false, List, [], ◌∷◌, ◌++◌, length, map, drop, get_or, Some, None, if◌then◌else◌, refl, sym, ap, arith, append_assoc}
 use Rattle.std.specs.Prelude.{slice_get}
 use Rattle.std.proofs.lemmas.List.{append-nil, at_drop_all, drop_more, map-append}
 use Rattle.std.proofs.lemmas.Option.{get_or_from_slice_get, slice_get-get_or, slice_get_within}
-use Rattle.elf_module.specs.Elf.{SymbolRecord, entry_of}
-use Rattle.elf_module.specs.declared.records.SymbolEntry.{SymbolEntry}
+use Rattle.elf_module.specs.Elf.{SymbolRecord}
 use Rattle.module_image.specs.declared.naming.SymbolNames.{SymbolNames}
 use Rattle.module_image.specs.Keys.{place_in}
 use Rattle.module_image.specs.Names.{Named, value_of, is_function, functions_from, is_key, keys_from}
 use Rattle.module_image.specs.Naming.{named_by}
-use Rattle.module_image.specs.SymbolNames.{AreNames, IsGiven, IsNamed, function_of, key_number, nameless}
+use Rattle.module_image.specs.SymbolNames.{AreNames, IsNamed, function_of, key_number}
 use Rattle.module_image.proofs.Named.{value_of-same}
 
 -- a symbol and those after it
@@ -72,37 +71,6 @@ key_given first keys s = by (is_key keys s)
     by : (b : Bool) → named_by s.name (if b then Some (first + place_in s.value keys) else None) ≡ (if b then (s.name, first + place_in s.value keys) ∷ [] else [])
     by true = refl
     by false = refl
-
--- a name that stands for nothing changes nothing
-given_nothing : (name : List ℕ) (o : Option ℕ) (xs : List Named) → o ≡ None → xs ≡ xs ++ named_by name o
-given_nothing name o xs none = sym (ap (λ p. xs ++ named_by name p) none ∙ append-nil xs)
-
-pub nothing_named : (index : ℕ) (jumps calls : List ℕ) (names : SymbolNames) (s : SymbolRecord) (e : SymbolEntry) → entry_of s ≡ e
-    → function_of index (nameless e) ≡ None → key_number 0 jumps (nameless e) ≡ None → key_number (length jumps) calls (nameless e) ≡ None
-    → IsNamed index jumps calls names names s
-nothing_named index jumps calls names s e same no_function no_jump no_call =
-    let function : function_of index s ≡ None = ap (λ x. function_of index (nameless x)) same ∙ no_function in
-    let jump : key_number 0 jumps s ≡ None = ap (λ x. key_number 0 jumps (nameless x)) same ∙ no_jump in
-    let call : key_number (length jumps) calls s ≡ None = ap (λ x. key_number (length jumps) calls (nameless x)) same ∙ no_call in
-    record {
-      functions = λ q. ap (value_of q) (given_nothing s.name (function_of index s) names.functions function);
-      addresses = sym (ap (λ o. names.addresses.items ++ map (λ (n : Named). n.1) (named_by s.name o)) function ∙ append-nil names.addresses.items);
-      jump_keys = λ q. ap (value_of q) (given_nothing s.name (key_number 0 jumps s) names.jump_keys jump);
-      call_keys = λ q. ap (value_of q) (given_nothing s.name (key_number (length jumps) calls s) names.call_keys call);
-    }
-
--- what was given is what the symbol names
-pub something_named : (index : ℕ) (jumps calls : List ℕ) (old new : SymbolNames) (s : SymbolRecord) (e : SymbolEntry) (name : List ℕ) (function jump_key call_key : Option ℕ)
-    → entry_of s ≡ e → name ≡ s.name → function ≡ function_of index (nameless e) → jump_key ≡ key_number 0 jumps (nameless e)
-    → call_key ≡ key_number (length jumps) calls (nameless e) → IsGiven name function jump_key call_key old new → IsNamed index jumps calls old new s
-something_named index jumps calls old new s e name function jump_key call_key same named is_function is_jump is_call given =
-    let f : function ≡ function_of index s = is_function ∙ ap (λ x. function_of index (nameless x)) (sym same) in
-    let j : jump_key ≡ key_number 0 jumps s = is_jump ∙ ap (λ x. key_number 0 jumps (nameless x)) (sym same) in
-    let k : call_key ≡ key_number (length jumps) calls s = is_call ∙ ap (λ x. key_number (length jumps) calls (nameless x)) (sym same) in
-    subst (λ n. IsGiven n (function_of index s) (key_number 0 jumps s) (key_number (length jumps) calls s) old new) named
-    (subst (λ o. IsGiven name o (key_number 0 jumps s) (key_number (length jumps) calls s) old new) f
-    (subst (λ o. IsGiven name function o (key_number (length jumps) calls s) old new) j
-    (subst (λ o. IsGiven name function jump_key o old new) k given)))
 
 -- what was found, with what the symbols that are left name, is all
 pub record AreNamesWith (index : ℕ) (jumps calls : List ℕ) (symbols : List SymbolRecord) (i : ℕ) (found : SymbolNames) : Type 0 where
