@@ -16,13 +16,13 @@ pub mod laws;
 mod lines;
 mod listing;
 mod lookup;
-mod marks;
 mod names;
 mod naming;
 mod refused;
 mod rows;
 mod site;
 mod site_list;
+mod site_units;
 mod sweep;
 #[cfg(test)]
 mod sweep_tests;

@@ -1,10 +1,6 @@
-use Rattle.std.proofs.Common.{◌≡◌, ◌∙◌, List, ℕ, ap, arith, length, rules, sym}
-use Rattle.module_image.specs.declared.site.Site.{Site}
-use Rattle.module_image.specs.Layout.{laid, layout}
-use Rattle.module_image.specs.Module.{IsModule}
-use Rattle.module_image.specs.Sites.{sites, text}
+use Rattle.std.proofs.Common.{◌∙◌, ap, arith, length, rules, sym}
 use Rattle.module_image.proofs.Lent.{sound_of}
-use Rattle.module_image.proofs.Sound.{found_aims, found_marks}
+use Rattle.module_image.proofs.Sound.{found_aims}
 use Rattle.module_image.proofs.image.Image.accept.Goals as goal
 
 pub of-requires-2-clause-functions : goal.of-requires-2-clause-functions
@@ -15,13 +11,6 @@ pub invariant_of-result : goal.invariant_of-result
 invariant_of-result c =
     let found = c.in_ok-found.ensures.found in
     let swept = c.in_ok-swept.ensures.swept in
-    let at = c.in_ok-found.found.text.base in
-    let bytes = c.in_ok-swept.swept.text.items in
-    let list = c.in_ok-found.found.sites.items in
-    let same : layout c.args.file.now ≡ laid at bytes list =
-    ap (λ (b : ℕ). laid b (text c.args.file.now) (sites c.args.file.now)) (sym found.is_text.same_base)
-    ∙ ap (λ (t : List ℕ). laid at t (sites c.args.file.now)) (sym swept.has_text)
-    ∙ ap (λ (ss : List Site). laid at bytes ss) (sym found.has_sites) in
     let below = found.is_text.below in
     let size = ap length found.is_text.same_bytes ∙ sym swept.same_length in
     sound_of _ c.args.file.now
@@ -38,5 +27,4 @@ invariant_of-result c =
       named_functions = search rules;
       named_jump_keys = search rules;
       named_call_keys = search rules;
-    })
-    (found_marks c.args.file.now at bytes list c.in_ok-swept.swept.marks.items same swept.marks) c.in_ok-jump_keys.ensures.small c.in_ok-call_keys.ensures.small
+    }) c.in_ok-jump_keys.ensures.small c.in_ok-call_keys.ensures.small
