@@ -1,12 +1,12 @@
--- No site begins between two addresses: by the sites, and by their marks.
+-- No site begins between two addresses: by the sites, and by the units.
 use Rattle.std.proofs.Common.{◌≡◌, ◌<◌, ◌≤◌, ◌+◌, ◌-◌, ◌∙◌, ◌||◌, nat_le, ℕ, zero, suc, Bool, true, false, List, [], ◌∷◌, length, take, drop, Option, Some, None, refl, ap, sym, arith, inl, inr}
 use Rattle.std.specs.List.{slice_get, slice_range, list_all}
-use Rattle.std.specs.Option.{is_none}
 use Rattle.std.proofs.lemmas.Bool.{and_parts, cases_lt, le-leb, leb-true, or_cases}
 use Rattle.std.proofs.lemmas.Option.{same_Some}
 use Rattle.module_image.specs.declared.site.Site.{Site}
+use Rattle.module_image.specs.declared.unit.Unit.{Unit}
 use Rattle.module_image.specs.Layout.{Layout, is_patched_at, is_clear, no_site_between, site_at}
-use Rattle.module_image.specs.Sweeping.{AreMarks}
+use Rattle.module_image.specs.Sweeping.{HasSites, is_nothing, unit_of_site}
 use Rattle.module_image.proofs.Marking.{patched_parts, patched_from}
 use Rattle.module_image.proofs.Positions.{found_none, found_some, slice_get-take}
 
@@ -41,10 +41,10 @@ same_tests true b there back = sym (there refl)
 same_tests false true there back = back refl
 same_tests false false there back = refl
 
--- a site that is unmarked between two offsets is clear of them
-unmarked_clear : (from to : ℕ) (s : Site) (f : Bool) → s.foreign ≡ f → (f ≡ false → from < s.at → s.at < to → ⊥) → is_clear from to s ≡ true
-unmarked_clear from to s true foreign outside = rw foreign refl
-unmarked_clear from to s false ours outside = rw ours (elim (cases_lt from s.at) [
+-- a site that doesn't begin between two addresses is clear of them
+apart_clear : (from to : ℕ) (s : Site) (f : Bool) → s.foreign ≡ f → (f ≡ false → from < s.at → s.at < to → ⊥) → is_clear from to s ≡ true
+apart_clear from to s true foreign outside = rw foreign refl
+apart_clear from to s false ours outside = rw ours (elim (cases_lt from s.at) [
   | inl after ↦ elim (cases_lt s.at to) [
     | inl before ↦ absurd (outside refl after before)
     | inr past_end ↦ (rw (le-leb to s.at past_end) (grind arith))
@@ -60,38 +60,39 @@ clear_outside from to s ours clear after before =
       | inr high ↦ (let le = leb-true to s.at high in omega (arith, le, before))
     ]
 
--- a mark that is none is no site's
-none_is : (o : Option ℕ) → is_none o ≡ true → o ≡ None
+-- a site's unit that is nothing is no site's
+none_is : (o : Option ℕ) → is_nothing (unit_of_site o) ≡ true → o ≡ None
 none_is None none = refl
 none_is (Some n) none = cc
 
-unmarked_if_clear : (t : Layout) (at : ℕ) (o : Option ℕ) → site_at t.sites at ≡ o → ((i : ℕ) (s : Site) → slice_get t.sites i ≡ Some s → s.foreign ≡ false → s.at ≡ at → ⊥) → is_none o ≡ true
-unmarked_if_clear t at None is clear = refl
-unmarked_if_clear t at (Some i) is clear =
+nothing_if_clear : (t : Layout) (at : ℕ) (o : Option ℕ) → site_at t.sites at ≡ o → ((i : ℕ) (s : Site) → slice_get t.sites i ≡ Some s → s.foreign ≡ false → s.at ≡ at → ⊥) → is_nothing (unit_of_site o) ≡ true
+nothing_if_clear t at None is clear = refl
+nothing_if_clear t at (Some i) is clear =
     let found = found_some (is_patched_at at) t.sites i is in
     let parts = patched_parts at found.item found.passes in
     absurd (clear i found.item found.here parts.0 parts.1)
 
--- the marks between two offsets tell whether a site begins there
-pub between_marks : (t : Layout) (marks : List (Option ℕ)) (from to : ℕ) → AreMarks t marks → from < to → to ≤ length t.text → list_all is_none (slice_range marks (from + 1) to) ≡ no_site_between t.sites (t.base + from) (t.base + to)
-between_marks t marks from to are order within = same_tests (list_all is_none (slice_range marks (from + 1) to)) (no_site_between t.sites (t.base + from) (t.base + to)) there back
+-- the units between two offsets tell whether a site begins there
+pub between_units : (t : Layout) (units : List Unit) (from to : ℕ) → HasSites t units from → from < to → to ≤ length t.text → list_all is_nothing (slice_range units (from + 1) to) ≡ no_site_between t.sites (t.base + from) (t.base + to)
+between_units t units from to are order within = same_tests (list_all is_nothing (slice_range units (from + 1) to)) (no_site_between t.sites (t.base + from) (t.base + to)) there back
   where
-    there : list_all is_none (slice_range marks (from + 1) to) ≡ true → no_site_between t.sites (t.base + from) (t.base + to) ≡ true
-    there all = all_from (is_clear (t.base + from) (t.base + to)) t.sites (λ i s here. unmarked_clear (t.base + from) (t.base + to) s s.foreign refl (λ ours after before.
+    there : list_all is_nothing (slice_range units (from + 1) to) ≡ true → no_site_between t.sites (t.base + from) (t.base + to) ≡ true
+    there all = all_from (is_clear (t.base + from) (t.base + to)) t.sites (λ i s here. apart_clear (t.base + from) (t.base + to) s s.foreign refl (λ ours after before.
         let k = s.at - t.base - (from + 1) in
         let place : t.base + (from + 1 + k) ≡ s.at = omega (arith, after) in
         let short : k < to - (from + 1) = omega (arith, after, before) in
         let inside : from + 1 + k < length t.text = omega (arith, short, within) in
-        let mark : slice_get (slice_range marks (from + 1) to) k ≡ Some (site_at t.sites s.at) = slice_get-slice_range marks (from + 1) to k short ∙ are.each (from + 1 + k) inside ∙ ap Some (ap (site_at t.sites) place) in
-        let none = none_is (site_at t.sites s.at) (all_at is_none (slice_range marks (from + 1) to) k (site_at t.sites s.at) all mark) in
+        let unit : slice_get (slice_range units (from + 1) to) k ≡ Some (unit_of_site (site_at t.sites s.at)) = slice_get-slice_range units (from + 1) to k short ∙ are.each (from + 1 + k) (omega arith) inside ∙ ap (λ at. Some (unit_of_site (site_at t.sites at))) place in
+        let none = none_is (site_at t.sites s.at) (all_at is_nothing (slice_range units (from + 1) to) k (unit_of_site (site_at t.sites s.at)) all unit) in
         let fails = found_none (is_patched_at s.at) t.sites i s none here in
         let passes = patched_from s.at s ours refl in
         cc))
 
-    back : no_site_between t.sites (t.base + from) (t.base + to) ≡ true → list_all is_none (slice_range marks (from + 1) to) ≡ true
-    back all = all_from is_none (slice_range marks (from + 1) to) (λ k mark here.
-        let short : k < to - (from + 1) = slice_get-take-past (drop (from + 1) marks) (to - (from + 1)) k mark here in
+    back : no_site_between t.sites (t.base + from) (t.base + to) ≡ true → list_all is_nothing (slice_range units (from + 1) to) ≡ true
+    back all = all_from is_nothing (slice_range units (from + 1) to) (λ k unit here.
+        let short : k < to - (from + 1) = slice_get-take-past (drop (from + 1) units) (to - (from + 1)) k unit here in
         let inside : from + 1 + k < length t.text = omega (arith, short, within) in
         let at = t.base + (from + 1 + k) in
-        let is : site_at t.sites at ≡ mark = (let e : Some (site_at t.sites at) ≡ Some mark = sym (are.each (from + 1 + k) inside) ∙ sym (slice_get-slice_range marks (from + 1) to k short) ∙ here in same_Some (site_at t.sites at) mark e) in
-        unmarked_if_clear t at mark is (λ i s there ours same. clear_outside (t.base + from) (t.base + to) s ours (all_at (is_clear (t.base + from) (t.base + to)) t.sites i s all there) (omega (arith, same)) (omega (arith, same, short))))
+        let is : unit_of_site (site_at t.sites at) ≡ unit = (let e : Some (unit_of_site (site_at t.sites at)) ≡ Some unit = sym (are.each (from + 1 + k) (omega arith) inside) ∙ sym (slice_get-slice_range units (from + 1) to k short) ∙ here in same_Some (unit_of_site (site_at t.sites at)) unit e) in
+        ap is_nothing (sym is)
+        ∙ nothing_if_clear t at (site_at t.sites at) refl (λ i s there ours same. clear_outside (t.base + from) (t.base + to) s ours (all_at (is_clear (t.base + from) (t.base + to)) t.sites i s all there) (omega (arith, same)) (omega (arith, same, short))))

@@ -23,7 +23,6 @@ use Rattle.module_image.specs.Module.{IsModule, Module, first_of, is_trace, is_t
 use Rattle.module_image.specs.Names.{tracer_name, value_of}
 use Rattle.module_image.specs.Refusals.{IsTrace, past_all, past_site_count, past_site_overlap, past_tracer_missing}
 use Rattle.module_image.specs.Sites.{sites}
-use Rattle.module_image.specs.Sweeping.{AreMarks}
 use Rattle.module_image.proofs.Grounds.{module_ground}
 use Rattle.module_image.proofs.KeyCount.{few_keys}
 use Rattle.module_image.proofs.KeyNumbers.{site_keyed}
@@ -44,8 +43,8 @@ no_trace elf m is missing =
     (none_traced elf (passes_before elf past_tracer_missing past_all (omega arith) is.passes) (sym (is.named_functions tracer_name) ∙ missing))
 
 -- what holds of a module holds of what an accepted one keeps
-pub sound_of : (i : Inside) (elf : Elf) → IsModule elf (module_of i) → AreMarks (layout_of (module_of i)) i.marks.items → i.tracer ≡ tracer_of (module_of i) → IsSound i
-sound_of i elf is marks tracer =
+pub sound_of : (i : Inside) (elf : Elf) → IsModule elf (module_of i) → i.tracer ≡ tracer_of (module_of i) → IsSound i
+sound_of i elf is tracer =
     let m = module_of i in
     let ground = module_ground elf m is in
     record {
@@ -55,7 +54,7 @@ sound_of i elf is marks tracer =
       short = few_bytes elf m is;
       inside = ground.inside;
       apart = ground.apart;
-      marks = marks;
+      swept = ground.swept;
       tracer = tracer;
       few = subst (λ (ss : List Site). length ss ≤ 1024) (sym is.has_sites) (few_passed elf (passes_before elf past_site_overlap past_all (omega arith) is.passes));
       few_keys = subst (λ ks. length ks ≤ 1024) (sym is.has_keys) (few_keys elf (passes_before elf past_site_count past_all (omega arith) is.passes));

@@ -1,12 +1,14 @@
--- The marks of a text's sites, made site by site, and what they tell.
-use Rattle.std.proofs.Common.{◌≡◌, ◌≢◌, ◌<◌, ◌≤◌, ◌+◌, ◌-◌, ◌∙◌, ◌++◌, ◌==◌, not, nat_lt, if◌then◌else◌, ℕ, Bool, true, false, List, length, get_or, set, take, Option, Some, None, refl, ap, sym, subst, arith, inl, inr}
+-- The sites of a text among its units, put there one by one.
+use Rattle.std.proofs.Common.{◌≡◌, ◌≢◌, ◌<◌, ◌≤◌, ◌+◌, ◌-◌, ◌∙◌, ◌++◌, ◌==◌, not, if◌then◌else◌, ℕ, zero, suc, Bool, true, false, List, length, get_or, replicate, set, take, Option, Some, None, refl, ap, sym, subst, arith, inl, inr}
 use Rattle.std.specs.List.{slice_get}
-use Rattle.std.proofs.lemmas.Bool.{and_parts, not-true, eqb-true, ne_eqb, eq-eqb, cases_eq, cases_lt, lt-ltb, le-ltb, and_right}
-use Rattle.std.proofs.lemmas.List.{length-set}
-use Rattle.std.proofs.lemmas.Option.{slice_get_within, slice_get_past, slice_get-get_or}
+use Rattle.std.proofs.lemmas.Bool.{and_parts, not-true, eqb-true, ne_eqb, eq-eqb, cases_eq, and_right}
+use Rattle.std.proofs.lemmas.List.{length-replicate, length-set}
+use Rattle.std.proofs.lemmas.Option.{slice_get_within, slice_get-get_or}
 use Rattle.module_image.specs.declared.site.Site.{Site}
+use Rattle.module_image.specs.declared.unit.Unit.{Unit}
+use Rattle.module_image.specs.declared.unit.Unit.TheVariants.{Nothing, Site as PatchedSite}
 use Rattle.module_image.specs.Layout.{Layout, laid, is_patched_at, site_at}
-use Rattle.module_image.specs.Sweeping.{AreMarks, mark_of}
+use Rattle.module_image.specs.Sweeping.{HasSites, site_in, unit_of_site}
 use Rattle.module_image.specs.Text.{AreInside, AreApart, IsInside}
 use Rattle.module_image.proofs.Positions.{found_some, found_more, found_last, slice_get-set_same, slice_get-set_other, slice_get-take, take_then, length-take-within, written_back}
 
@@ -41,55 +43,53 @@ none_before base size sites n s inside apart here (Some i) is =
     let same = (patched_parts s.at found.item found.passes).1 in
     absurd (omega (arith, long, before, same))
 
--- the marks once one site more is marked
-pub marks_step : (base : ℕ) (text : List ℕ) (sites : List Site) (n : ℕ) (s : Site) (marks new : List (Option ℕ)) → AreInside base (length text) sites → AreApart sites → slice_get sites n ≡ Some s → AreMarks (laid base text (take n sites)) marks → (f : Bool) → s.foreign ≡ f → new ≡ (if f then marks else set marks (s.at - base) (Some n)) → AreMarks (laid base text (take (n + 1) sites)) new
-marks_step base text sites n s marks new inside apart here are true foreign is =
+-- before any site is put there is nothing
+nothing_at : (n k : ℕ) → k < n → slice_get (replicate n Nothing) k ≡ Some Nothing
+nothing_at zero k lt = absurd (omega (arith, lt))
+nothing_at (suc n) zero lt = refl
+nothing_at (suc n) (suc k) lt = nothing_at n k (omega (arith, lt))
+
+pub units_begin : (base : ℕ) (text : List ℕ) (sites : List Site) (units : List Unit) → units ≡ replicate (length text) Nothing → HasSites (laid base text (take 0 sites)) units 0
+units_begin base text sites units are = record {
+  same_length = ap length are ∙ length-replicate (length text) Nothing;
+  each = λ k low lt. ap (λ us. slice_get us k) are ∙ nothing_at (length text) k lt;
+}
+
+-- the units once one site more is put
+units_step : (base : ℕ) (text : List ℕ) (sites : List Site) (n : ℕ) (s : Site) (units new : List Unit) → AreInside base (length text) sites → AreApart sites → slice_get sites n ≡ Some s → HasSites (laid base text (take n sites)) units 0 → (f : Bool) → s.foreign ≡ f → new ≡ (if f then units else set units (s.at - base) (PatchedSite n)) → HasSites (laid base text (take (n + 1) sites)) new 0
+units_step base text sites n s units new inside apart here are true foreign is =
     let more : (at : ℕ) → site_at (take n sites) at ≡ site_at (take (n + 1) sites) at = λ at. sym (ap (λ ss. site_at ss at) (take_then sites n s here) ∙ found_more (is_patched_at at) (take n sites) s (foreign_not at s foreign)) in
     record {
       same_length = ap length is ∙ are.same_length;
-      each = λ k lt. ap (λ ms. slice_get ms k) is ∙ are.each k lt ∙ ap Some (more (base + k));
+      each = λ k low lt. ap (λ us. slice_get us k) is ∙ are.each k low lt ∙ ap (λ o. Some (unit_of_site o)) (more (base + k));
     }
-marks_step base text sites n s marks new inside apart here are false ours is =
+units_step base text sites n s units new inside apart here are false ours is =
     let within = inside n s here in
     let long = some_len base (length text) s within in
-    let place : s.at - base < length marks = omega (arith, within.from, within.to, long, are.same_length) in
+    let place : s.at - base < length units = omega (arith, within.from, within.to, long, are.same_length) in
     let more : (at : ℕ) → s.at ≢ at → site_at (take n sites) at ≡ site_at (take (n + 1) sites) at = λ at other. sym (ap (λ ss. site_at ss at) (take_then sites n s here) ∙ found_more (is_patched_at at) (take n sites) s (elsewhere_not at s other)) in
-    let marked : (at : ℕ) → s.at ≡ at → site_at (take (n + 1) sites) at ≡ Some n =
+    let found : (at : ℕ) → s.at ≡ at → site_at (take (n + 1) sites) at ≡ Some n =
     λ at same. ap (λ ss. site_at ss at) (take_then sites n s here) ∙ found_last (is_patched_at at) (take n sites) s (patched_from at s ours same) (subst (λ (a : ℕ). site_at (take n sites) a ≡ None) same (none_before base (length text) sites n s inside apart here (site_at (take n sites) s.at) refl)) ∙ ap Some (length-take-within sites n s here) in
     record {
-      same_length = ap length is ∙ length-set marks (s.at - base) (Some n) ∙ are.same_length;
-      each = λ k lt. ap (λ ms. slice_get ms k) is ∙ elim (cases_eq k (s.at - base)) [
-        | inl same ↦ (let at : s.at ≡ base + k = omega (arith, same, within.from) in slice_get-set_same marks (s.at - base) k (Some n) place same ∙ ap Some (sym (marked (base + k) at)))
-        | inr other ↦ (let not_at : s.at ≢ base + k = λ at. other (omega (arith, at)) in slice_get-set_other marks (s.at - base) k (Some n) other ∙ are.each k lt ∙ ap Some (more (base + k) not_at))
+      same_length = ap length is ∙ length-set units (s.at - base) (PatchedSite n) ∙ are.same_length;
+      each = λ k low lt. ap (λ us. slice_get us k) is ∙ elim (cases_eq k (s.at - base)) [
+        | inl same ↦ (let at : s.at ≡ base + k = omega (arith, same, within.from) in slice_get-set_same units (s.at - base) k (PatchedSite n) place same ∙ ap (λ o. Some (unit_of_site o)) (sym (found (base + k) at)))
+        | inr other ↦ (let not_at : s.at ≢ base + k = λ at. other (omega (arith, at)) in slice_get-set_other units (s.at - base) k (PatchedSite n) other ∙ are.each k low lt ∙ ap (λ o. Some (unit_of_site o)) (more (base + k) not_at))
       ];
     }
 
--- the same where the site is read by its number, and the marks are lent and written back
-pub marks_written : (base : ℕ) (text : List ℕ) (sites : List Site) (n : ℕ) (d : Site) (marks lent new rest : List (Option ℕ)) (len : ℕ) → AreInside base (length text) sites → AreApart sites → n < length sites → AreMarks (laid base text (take n sites)) marks → lent ≡ marks → length new ≡ length lent → len ≡ length marks → new ≡ (if (get_or sites n d).foreign then lent else set lent ((get_or sites n d).at - base) (Some n)) → AreMarks (laid base text (take (n + 1) sites)) (take len (new ++ rest))
-marks_written base text sites n d marks lent new rest len inside apart lt are same kept size is =
+-- the same where the site is read by its number, and the units are lent and written back
+pub units_written : (base : ℕ) (text : List ℕ) (sites : List Site) (n : ℕ) (d : Site) (units lent new rest : List Unit) (len : ℕ) → AreInside base (length text) sites → AreApart sites → n < length sites → HasSites (laid base text (take n sites)) units 0 → lent ≡ units → length new ≡ length lent → len ≡ length units → new ≡ (if (get_or sites n d).foreign then lent else set lent ((get_or sites n d).at - base) (PatchedSite n)) → HasSites (laid base text (take (n + 1) sites)) (take len (new ++ rest)) 0
+units_written base text sites n d units lent new rest len inside apart lt are same kept size is =
     let s = get_or sites n d in
     let whole : take len (new ++ rest) ≡ new = written_back len new rest (kept ∙ ap length same ∙ sym size) in
-    let step = marks_step base text sites n s marks new inside apart (slice_get-get_or sites n d lt) are s.foreign refl (is ∙ ap (λ ms. if s.foreign then ms else set ms (s.at - base) (Some n)) same) in
-    subst (λ (ms : List (Option ℕ)). AreMarks (laid base text (take (n + 1) sites)) ms) (sym whole) step
+    let step = units_step base text sites n s units new inside apart (slice_get-get_or sites n d lt) are s.foreign refl (is ∙ ap (λ us. if s.foreign then us else set us (s.at - base) (PatchedSite n)) same) in
+    subst (λ (us : List Unit). HasSites (laid base text (take (n + 1) sites)) us 0) (sym whole) step
 
--- no site begins outside the text
-no_site_outside : (t : Layout) → AreInside t.base (length t.text) t.sites → (at : ℕ) → (t.base ≤ at → at < t.base + length t.text → ⊥) → (o : Option ℕ) → site_at t.sites at ≡ o → site_at t.sites at ≡ None
-no_site_outside t inside at outside None is = is
-no_site_outside t inside at outside (Some i) is =
-    let found = found_some (is_patched_at at) t.sites i is in
-    let within = inside i found.item found.here in
-    let long = some_len t.base (length t.text) found.item within in
-    let same = (patched_parts at found.item found.passes).1 in
-    absurd (outside (omega (arith, within.from, same)) (omega (arith, within.to, long, same)))
+-- the site that was put at an offset
+site_back : (o : Option ℕ) → site_in (Some (unit_of_site o)) ≡ o
+site_back None = refl
+site_back (Some n) = refl
 
--- a mark that is read at an address is the site that begins there
-pub marked : (t : Layout) (marks : List (Option ℕ)) → AreMarks t marks → AreInside t.base (length t.text) t.sites → (at : ℕ) → (if nat_lt at t.base then None else mark_of (slice_get marks (at - t.base))) ≡ site_at t.sites at
-marked t marks are inside at = elim (cases_lt at t.base) [
-  | inl before ↦ rw (lt-ltb at t.base before) (sym (no_site_outside t inside at (λ from to. omega (arith, before, from)) (site_at t.sites at) refl))
-  | inr from ↦ rw (le-ltb at t.base from) (elim (cases_lt (at - t.base) (length t.text)) [
-    | inl within ↦ (let same : t.base + (at - t.base) ≡ at = omega (arith, from) in ap mark_of (are.each (at - t.base) within ∙ ap Some (ap (site_at t.sites) same)))
-    | inr past_end ↦ (
-        let past_marks : length marks ≤ at - t.base = omega (arith, past_end, are.same_length) in
-        ap mark_of (slice_get_past marks (at - t.base) past_marks) ∙ sym (no_site_outside t inside at (λ _ to. omega (arith, past_end, from, to)) (site_at t.sites at) refl))
-  ])
-]
+pub site_told : (t : Layout) (units : List Unit) (k : ℕ) → HasSites t units k → k < length t.text → site_in (slice_get units k) ≡ site_at t.sites (t.base + k)
+site_told t units k are lt = ap site_in (are.each k (omega arith) lt) ∙ site_back (site_at t.sites (t.base + k))

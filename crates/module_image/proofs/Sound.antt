@@ -1,5 +1,5 @@
 -- What was found of a module is sound.
-use Rattle.std.proofs.Common.{◌≡◌, ◌≤◌, ℕ, List, [], ◌∷◌, length, map, Option, refl, sym, ap, ◌∙◌, subst, arith}
+use Rattle.std.proofs.Common.{◌≡◌, ◌≤◌, ℕ, List, [], ◌∷◌, length, map, refl, sym, ap, ◌∙◌, subst, arith}
 use Rattle.elf_module.specs.Elf.{Elf}
 use Rattle.module_image.specs.declared.entry.Entry.{Entry}
 use Rattle.module_image.specs.declared.finding.Found.{Found}
@@ -11,11 +11,9 @@ use Rattle.module_image.specs.Early.{HaveCallLens}
 use Rattle.module_image.specs.Entries.{base, entries, file_text, text_index}
 use Rattle.module_image.specs.Found.{IsFound}
 use Rattle.module_image.specs.Keys.{gathered, key_addresses}
-use Rattle.module_image.specs.Layout.{Layout, laid, layout}
 use Rattle.module_image.specs.Names.{Named, functions, functions_from}
 use Rattle.module_image.specs.Refusals.{Passes, function_aims, past_site_count, past_site_length, past_site_outside, past_site_overlap}
 use Rattle.module_image.specs.Sites.{ascending, site_of, sites}
-use Rattle.module_image.specs.Sweeping.{AreMarks}
 use Rattle.module_image.specs.Text.{AreApart, AreInside, IsText}
 use Rattle.module_image.proofs.Passed.{few_entries, none_outside, none_without_length}
 use Rattle.module_image.proofs.SiteLaws.{few_sites, sites_apart_passed, sites_call_lens, sites_inside}
@@ -79,7 +77,3 @@ pub found_aims : (elf : Elf) (index : ℕ) (addresses : List ℕ) → index ≡ 
 found_aims elf index addresses same are =
     ap (λ (xs : List ℕ). map function_aim xs) are ∙ aims_of (functions_from index elf.symbols)
     ∙ ap (λ (i : ℕ). function_aims (functions_from i elf.symbols)) same
-
--- the marks of the file's layout are those of the parts of its module
-pub found_marks : (elf : Elf) (at : ℕ) (bytes : List ℕ) (list : List Site) (marks : List (Option ℕ)) → layout elf ≡ laid at bytes list → AreMarks (layout elf) marks → AreMarks (laid at bytes list) marks
-found_marks elf at bytes list marks same are = subst (λ (t : Layout). AreMarks t marks) same are

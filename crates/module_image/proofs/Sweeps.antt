@@ -1,30 +1,30 @@
 -- The units of a text, noted from its first byte on, one after the other.
-use Rattle.std.proofs.Common.{length-drop, ◌≡◌, ◌≢◌, ◌<◌, ◌≤◌, ◌+◌, ◌-◌, ◌∙◌, ◌&&◌, ◌⊎◌, if◌then◌else◌, nat_le, ℕ, zero, suc, Bool, true, false, List, length, set, drop, replicate, Option, Some, None, Ok, Err, refl, ap, sym, subst, arith, inl, inr}
+use Rattle.std.proofs.Common.{length-drop, ◌≡◌, ◌≢◌, ◌<◌, ◌≤◌, ◌+◌, ◌-◌, ◌∙◌, ◌&&◌, ◌⊎◌, if◌then◌else◌, nat_le, ℕ, zero, suc, Bool, true, false, List, length, set, drop, Option, Some, None, Ok, Err, refl, ap, sym, subst, arith, inl, inr}
 use Rattle.std.specs.List.{slice_get, slice_range, list_all}
-use Rattle.std.specs.Option.{is_none}
-use Rattle.std.proofs.lemmas.Bool.{leb-true, le-leb, cases_eq}
+use Rattle.std.proofs.lemmas.Bool.{leb-true, le-leb, cases_eq, cases_lt}
 use Rattle.std.proofs.lemmas.Grind.{common_steps}
-use Rattle.std.proofs.lemmas.List.{length-set, length-replicate}
-use Rattle.std.proofs.lemmas.Option.{same_Some}
+use Rattle.std.proofs.lemmas.List.{length-set}
+use Rattle.std.proofs.lemmas.Option.{same_Some, slice_get_within}
 use Rattle.x64_subset.specs.declared.insn.Insn.{Insn}
 use Rattle.x64_subset.specs.Reading.{Answer, read}
 use Rattle.module_image.specs.declared.unit.Unit.{Unit}
 use Rattle.module_image.specs.declared.unit.Unit.TheVariants.{Nothing, Plain}
 use Rattle.module_image.specs.Layout.{Layout, is_patched_at, no_site_between, site_at, text_end, plain_unit, unit_of, unit_at, len_of, unit_len, IsStart, IsNoted, IsSwept}
 use Rattle.module_image.specs.Layout.IsStart.{the_first, the_end}
-use Rattle.module_image.specs.Sweeping.{AreMarks}
-use Rattle.module_image.specs.Text.{AreInside}
-use Rattle.module_image.proofs.Between.{between_marks}
+use Rattle.module_image.specs.Sweeping.{HasSites, is_nothing, unit_of_site}
+use Rattle.module_image.specs.Text.{AreApart, AreInside}
+use Rattle.module_image.proofs.Between.{between_units}
 use Rattle.module_image.proofs.Marking.{patched_parts}
+use Rattle.module_image.proofs.UnitLaws.{no_site_inside, site_is}
 use Rattle.module_image.proofs.Positions.{found_some, slice_get-set_same, slice_get-set_other}
 
 -- what stands after an offset
 rest_whole : {X : Type 0} (xs : List X) (n : ℕ) → slice_range xs n (length xs) ≡ drop n xs
 rest_whole xs n = grind (arith, common_steps)
 
--- the plain instruction that was decoded at an offset is the unit there where no mark is in it
-pub plain_noted : (t : Layout) (marks : List (Option ℕ)) (offset end : ℕ) (insn : Insn) (len : ℕ) (clear told : Bool) → (let rest = slice_range t.text offset (length t.text) in AreMarks t marks → Ok (insn, len) ≡ read (t.base + offset) rest → 1 ≤ len → len ≤ length rest → offset < length t.text → end ≡ len → clear ≡ list_all is_none (slice_range marks (offset + 1) (offset + end)) → clear ≡ told → (if told then Plain insn len else Nothing) ≡ plain_unit t (t.base + offset) (read (t.base + offset) (drop offset t.text)))
-plain_noted t marks offset end insn len clear told are is some short lt ends clears tells =
+-- the plain instruction that was decoded at an offset is the unit there where nothing stands in it
+pub plain_noted : (t : Layout) (units : List Unit) (offset end : ℕ) (insn : Insn) (len : ℕ) (clear told : Bool) → (let rest = slice_range t.text offset (length t.text) in HasSites t units offset → Ok (insn, len) ≡ read (t.base + offset) rest → 1 ≤ len → len ≤ length rest → offset < length t.text → end ≡ len → clear ≡ list_all is_nothing (slice_range units (offset + 1) (offset + end)) → clear ≡ told → (if told then Plain insn len else Nothing) ≡ plain_unit t (t.base + offset) (read (t.base + offset) (drop offset t.text)))
+plain_noted t units offset end insn len clear told are is some short lt ends clears tells =
     let whole = rest_whole t.text offset in
     let size = ap length whole ∙ length-drop offset t.text in
     let within : offset + len ≤ length t.text = omega (arith, short, size, lt) in
@@ -33,8 +33,8 @@ plain_noted t marks offset end insn len clear told are is some short lt ends cle
     let fits : t.base + offset + len ≤ text_end t = omega (arith, within) in
     let same : no_site_between t.sites (t.base + offset) (t.base + offset + len) ≡ told =
     ap (no_site_between t.sites (t.base + offset)) (sym sum)
-    ∙ sym (between_marks t marks offset (offset + len) are (omega (arith, some)) within)
-    ∙ ap (λ e. list_all is_none (slice_range marks (offset + 1) (offset + e))) (sym ends)
+    ∙ sym (between_units t units offset (offset + len) are (omega (arith, some)) within)
+    ∙ ap (λ e. list_all is_nothing (slice_range units (offset + 1) (offset + e))) (sym ends)
     ∙ sym clears
     ∙ tells in
     sym (ap (plain_unit t (t.base + offset)) (sym reads) ∙ rw (le-leb (t.base + offset + len) (text_end t) fits, same) refl)
@@ -65,36 +65,27 @@ unit_fits t at inside le = of_fits t at (site_at t.sites at) inside refl le
 abbrev pub IsReached : Layout → List Unit → ℕ → ℕ → Type 0
 IsReached t units at k = (k ≡ at) ⊎ IsNoted t units k
 
--- how far the units are noted: before an offset, which is the end of the last of them
+-- how far the units are noted: before an offset, which is the end of the last of them; from there on the sites stand
 pub record Sweeping (t : Layout) (units : List Unit) (at : ℕ) : Type 0 where
-  pub same_length : length units ≡ length t.text
+  pub sites : HasSites t units at
   pub at_most : at ≤ length t.text
   pub here : at < length t.text → IsStart t (t.base + at)
-  pub sound : (k : ℕ) (unit : Unit) → slice_get units k ≡ Some unit → 0 < unit_len t unit → IsStart t (t.base + k) × (unit_at t (t.base + k) ≡ unit)
-  pub blank : (k : ℕ) (unit : Unit) → slice_get units k ≡ Some unit → unit_len t unit ≡ 0 → unit ≡ Nothing
-  pub closed : (k : ℕ) (unit : Unit) → slice_get units k ≡ Some unit → 0 < unit_len t unit → (k < at) × IsReached t units at (k + unit_len t unit)
+  pub sound : (k : ℕ) (unit : Unit) → k < at → slice_get units k ≡ Some unit → 0 < unit_len t unit → IsStart t (t.base + k) × (unit_at t (t.base + k) ≡ unit)
+  pub blank : (k : ℕ) (unit : Unit) → k < at → slice_get units k ≡ Some unit → unit_len t unit ≡ 0 → unit ≡ Nothing
+  pub closed : (k : ℕ) (unit : Unit) → k < at → slice_get units k ≡ Some unit → 0 < unit_len t unit → IsReached t units at (k + unit_len t unit)
   pub first : IsReached t units at 0
 
 -- at first nothing is
-blank_item : (n k : ℕ) (unit : Unit) → slice_get (replicate n Nothing) k ≡ Some unit → unit ≡ Nothing
-blank_item zero k unit here = cc
-blank_item (suc n) zero unit here = (let same : Nothing ≡ unit = cc in sym same)
-blank_item (suc n) (suc k) unit here = blank_item n k unit here
-
-blank_len : (t : Layout) (unit : Unit) → unit ≡ Nothing → 0 < unit_len t unit → ⊥
-blank_len t unit is some = (let len : unit_len t unit ≡ 0 = ap (unit_len t) is in omega (arith, len, some))
-
-pub sweep_begins : (t : Layout) (units : List Unit) → units ≡ replicate (length t.text) Nothing → Sweeping t units 0
-sweep_begins t units are =
-    let nothing : (k : ℕ) (unit : Unit) → slice_get units k ≡ Some unit → unit ≡ Nothing = λ k unit here. blank_item (length t.text) k unit (ap (λ us. slice_get us k) (sym are) ∙ here) in
+pub sweep_begins : (t : Layout) (units : List Unit) → HasSites t units 0 → Sweeping t units 0
+sweep_begins t units has =
     let first_place : t.base ≡ t.base + 0 = omega arith in
     record {
-      same_length = ap length are ∙ length-replicate (length t.text) Nothing;
+      sites = has;
       at_most = omega arith;
       here = λ some. subst (IsStart t) first_place the_first;
-      sound = λ k unit here some. absurd (blank_len t unit (nothing k unit here) some);
-      blank = λ k unit here none. nothing k unit here;
-      closed = λ k unit here some. absurd (blank_len t unit (nothing k unit here) some);
+      sound = λ k unit lt here some. absurd (omega (arith, lt));
+      blank = λ k unit lt here none. absurd (omega (arith, lt));
+      closed = λ k unit lt here some. absurd (omega (arith, lt));
       first = inl refl;
     }
 
@@ -111,33 +102,62 @@ reached_kept t units at k end unit lt some reached = elim reached [
   | inr noted ↦ inr (noted_kept t units at k unit lt some noted)
 ]
 
+-- no site begins inside a unit
+no_site_in : (t : Layout) (at to : ℕ) → AreInside t.base (length t.text) t.sites → AreApart t.sites → at < to → to < at + unit_len t (unit_at t at) → (o : Option ℕ) → site_at t.sites to ≡ o → o ≡ None
+no_site_in t at to inside apart after before None is = refl
+no_site_in t at to inside apart after before (Some i) is =
+    let found = site_is t to i is in
+    let same = found.same in
+    absurd (no_site_inside t at i found.site inside apart found.here found.ours (omega (arith, same, after)) (omega (arith, same, before)))
+
+-- nothing has no length
+blank_len : (t : Layout) (unit : Unit) → unit ≡ Nothing → 0 < unit_len t unit → ⊥
+blank_len t unit is some = (let len : unit_len t unit ≡ 0 = ap (unit_len t) is in omega (arith, len, some))
+
 -- one unit more
-pub sweep_step : (t : Layout) (units : List Unit) (at : ℕ) (unit : Unit) → Sweeping t units at → at < length t.text → unit_at t (t.base + at) ≡ unit → 0 < unit_len t unit → at + unit_len t unit ≤ length t.text → Sweeping t (set units at unit) (at + unit_len t unit)
-sweep_step t units at unit before lt is some fits =
-    let inside : at < length units = omega (arith, lt, before.same_length) in
-    let wrote : (k : ℕ) (u : Unit) → k ≡ at → slice_get (set units at unit) k ≡ Some u → unit ≡ u = λ k u same here. same_Some unit u (sym (slice_get-set_same units at k unit inside same) ∙ here) in
+pub sweep_step : (t : Layout) (units : List Unit) (at : ℕ) (unit : Unit) → AreInside t.base (length t.text) t.sites → AreApart t.sites → Sweeping t units at → at < length t.text → unit_at t (t.base + at) ≡ unit → 0 < unit_len t unit → at + unit_len t unit ≤ length t.text → Sweeping t (set units at unit) (at + unit_len t unit)
+sweep_step t units at unit inside apart before lt is some fits =
+    let size = before.sites.same_length in
+    let within : at < length units = omega (arith, lt, size) in
+    let len : unit_len t (unit_at t (t.base + at)) ≡ unit_len t unit = ap (unit_len t) is in
+    let wrote : (k : ℕ) (u : Unit) → k ≡ at → slice_get (set units at unit) k ≡ Some u → unit ≡ u = λ k u same here. same_Some unit u (sym (slice_get-set_same units at k unit within same) ∙ here) in
     let kept : (k : ℕ) (u : Unit) → k ≢ at → slice_get (set units at unit) k ≡ Some u → slice_get units k ≡ Some u = λ k u other here. sym (slice_get-set_other units at k unit other) ∙ here in
+    let nothing : (k : ℕ) (u : Unit) → k ≢ at → at ≤ k → k < at + unit_len t unit → slice_get (set units at unit) k ≡ Some u → u ≡ Nothing =
+    λ k u other from to here.
+    let ahead = before.sites.each k from (omega (arith, to, fits)) in
+    let none = no_site_in t (t.base + at) (t.base + k) inside apart (omega (arith, other, from)) (omega (arith, to, len)) (site_at t.sites (t.base + k)) refl in
+    same_Some u (unit_of_site (site_at t.sites (t.base + k))) (sym (kept k u other here) ∙ ahead) ∙ ap unit_of_site none in
     record {
-      same_length = length-set units at unit ∙ before.same_length;
+      sites = record {
+        same_length = length-set units at unit ∙ size;
+        each = λ k low short. slice_get-set_other units at k unit (λ e. omega (arith, e, low, some)) ∙ before.sites.each k (omega (arith, low)) short;
+      };
       at_most = fits;
-      here = λ more.
-          let len : unit_len t (unit_at t (t.base + at)) ≡ unit_len t unit = ap (unit_len t) is in
-          the_end (t.base + at) (t.base + (at + unit_len t unit)) (before.here lt) (omega (arith, len, some)) (omega (arith, len)) (omega (arith, more));
-      sound = λ k u here long. elim (cases_eq k at) [
+      here = λ more. the_end (t.base + at) (t.base + (at + unit_len t unit)) (before.here lt) (omega (arith, len, some)) (omega (arith, len)) (omega (arith, more));
+      sound = λ k u below here long. elim (cases_eq k at) [
         | inl same ↦ (
             let place : t.base + at ≡ t.base + k = ap (λ n. t.base + n) (sym same) in
             (subst (IsStart t) place (before.here lt), ap (unit_at t) (sym place) ∙ is ∙ wrote k u same here))
-        | inr other ↦ before.sound k u (kept k u other here) long
+        | inr other ↦ elim (cases_lt k at) [
+          | inl earlier ↦ before.sound k u earlier (kept k u other here) long
+          | inr later ↦ absurd (blank_len t u (nothing k u other later below here) long)
+        ]
       ];
-      blank = λ k u here none. elim (cases_eq k at) [
-        | inl same ↦ (let len : unit_len t unit ≡ unit_len t u = ap (unit_len t) (wrote k u same here) in absurd (omega (arith, len, none, some)))
-        | inr other ↦ before.blank k u (kept k u other here) none
+      blank = λ k u below here none. elim (cases_eq k at) [
+        | inl same ↦ (let size : unit_len t unit ≡ unit_len t u = ap (unit_len t) (wrote k u same here) in absurd (omega (arith, size, none, some)))
+        | inr other ↦ elim (cases_lt k at) [
+          | inl earlier ↦ before.blank k u earlier (kept k u other here) none
+          | inr later ↦ nothing k u other later below here
+        ]
       ];
-      closed = λ k u here long. elim (cases_eq k at) [
-        | inl same ↦ (let len : unit_len t unit ≡ unit_len t u = ap (unit_len t) (wrote k u same here) in (omega (arith, same, some), inl (omega (arith, same, len))))
-        | inr other ↦ (let old = before.closed k u (kept k u other here) long in (omega (arith, old.0), reached_kept t units at (k + unit_len t u) (at + unit_len t unit) unit inside some old.1))
+      closed = λ k u below here long. elim (cases_eq k at) [
+        | inl same ↦ (let size : unit_len t unit ≡ unit_len t u = ap (unit_len t) (wrote k u same here) in inl (omega (arith, same, size)))
+        | inr other ↦ elim (cases_lt k at) [
+          | inl earlier ↦ reached_kept t units at (k + unit_len t u) (at + unit_len t unit) unit within some (before.closed k u earlier (kept k u other here) long)
+          | inr later ↦ absurd (blank_len t u (nothing k u other later below here) long)
+        ]
       ];
-      first = reached_kept t units at 0 (at + unit_len t unit) unit inside some before.first;
+      first = reached_kept t units at 0 (at + unit_len t unit) unit within some before.first;
     }
 
 -- at the end each start has its unit
@@ -151,9 +171,10 @@ complete t units some swept a (the_first) =
 complete t units some swept b (the_end a _ start long e lt) =
     let before = complete t units some swept a start in
     let place : t.base + (a - t.base) ≡ a = omega (arith, before.0) in
-    let is : unit_at t a ≡ before.2.unit = ap (unit_at t) (sym place) ∙ (swept.sound (a - t.base) before.2.unit before.2.get before.2.some).1 in
+    let offset : a - t.base < length t.text = omega (arith, before.0, before.1) in
+    let is : unit_at t a ≡ before.2.unit = ap (unit_at t) (sym place) ∙ (swept.sound (a - t.base) before.2.unit offset before.2.get before.2.some).1 in
     let len : unit_len t (unit_at t a) ≡ unit_len t before.2.unit = ap (unit_len t) is in
-    let reached = (swept.closed (a - t.base) before.2.unit before.2.get before.2.some).1 in
+    let reached = swept.closed (a - t.base) before.2.unit offset before.2.get before.2.some in
     let there : a - t.base + unit_len t before.2.unit ≡ b - t.base = omega (arith, len, e, before.0) in
     let not_last : a - t.base + unit_len t before.2.unit ≢ length t.text = λ last. omega (arith, last, len, e, lt, before.0) in
     (omega (arith, before.0, e), lt, subst (λ (k : ℕ). IsNoted t units k) there (noted_at t units (length t.text) (a - t.base + unit_len t before.2.unit) not_last reached))
@@ -162,15 +183,22 @@ pub sweep_ends : (t : Layout) (units : List Unit) (at : ℕ) → 0 < length t.te
 sweep_ends t units at some swept done =
     let end : at ≡ length t.text = omega (arith, done, swept.at_most) in
     let whole : Sweeping t units (length t.text) = subst (λ (k : ℕ). Sweeping t units k) end swept in
-    record { same_length = whole.same_length; sound = whole.sound; complete = complete t units some whole; blank = whole.blank }
+    let size = whole.sites.same_length in
+    let below : (k : ℕ) (unit : Unit) → slice_get units k ≡ Some unit → k < length t.text = λ k unit here. (let lt = slice_get_within units k unit here in omega (arith, lt, size)) in
+    record {
+      same_length = size;
+      sound = λ k unit here long. whole.sound k unit (below k unit here) here long;
+      complete = complete t units some whole;
+      blank = λ k unit here none. whole.blank k unit (below k unit here) here none;
+    }
 
 -- the same where the unit and its length were told
-pub sweep_told : (t : Layout) (units : List Unit) (at len step : ℕ) (unit : Unit) → AreInside t.base (length t.text) t.sites → Sweeping t units at → at < length t.text → unit ≡ unit_at t (t.base + at) → len ≡ unit_len t unit → (len ≡ 0 → ⊥) → step ≡ len → Sweeping t (set units at unit) (at + step)
-sweep_told t units at len step unit inside before lt is size some steps =
+pub sweep_told : (t : Layout) (units : List Unit) (at len step : ℕ) (unit : Unit) → AreInside t.base (length t.text) t.sites → AreApart t.sites → Sweeping t units at → at < length t.text → unit ≡ unit_at t (t.base + at) → len ≡ unit_len t unit → (len ≡ 0 → ⊥) → step ≡ len → Sweeping t (set units at unit) (at + step)
+sweep_told t units at len step unit inside apart before lt is size some steps =
     let below : t.base + at ≤ text_end t = omega (arith, lt) in
     let fits = unit_fits t (t.base + at) inside below in
     let same : unit_len t unit ≡ unit_len t (unit_at t (t.base + at)) = ap (unit_len t) is in
     let whole : at + unit_len t unit ≤ length t.text = omega (arith, fits, same) in
     let long : 0 < unit_len t unit = omega (arith, size, some) in
     let stepped : unit_len t unit ≡ step = sym size ∙ sym steps in
-    subst (λ (k : ℕ). Sweeping t (set units at unit) (at + k)) stepped (sweep_step t units at unit before lt (sym is) long whole)
+    subst (λ (k : ℕ). Sweeping t (set units at unit) (at + k)) stepped (sweep_step t units at unit inside apart before lt (sym is) long whole)

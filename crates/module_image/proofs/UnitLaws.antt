@@ -1,8 +1,8 @@
 -- Sites that aren't foreign, among the units of their text.
-use Rattle.std.proofs.Common.{◌≡◌, ◌<◌, ◌≤◌, ◌+◌, ◌-◌, ◌∙◌, ◌&&◌, if◌then◌else◌, nat_le, ℕ, zero, suc, Bool, true, false, List, length, drop, Option, Some, None, Ok, Err, refl, ap, sym, subst, arith, inl, inr}
+use Rattle.std.proofs.Common.{◌≡◌, ◌<◌, ◌≤◌, ◌+◌, ◌-◌, ◌∙◌, ◌&&◌, if◌then◌else◌, nat_le, nat_lt, ltb-false, ℕ, zero, suc, Bool, true, false, List, length, drop, Option, Some, None, Ok, Err, refl, ap, sym, subst, arith, inl, inr}
 use Rattle.std.specs.List.{slice_get}
-use Rattle.std.proofs.lemmas.Bool.{cases_lt, cases_order, cases_eq, leb-true}
-use Rattle.std.proofs.lemmas.Option.{same_Some}
+use Rattle.std.proofs.lemmas.Bool.{cases_lt, cases_order, cases_eq, le-ltb, leb-true}
+use Rattle.std.proofs.lemmas.Option.{none-some, same_Some}
 use Rattle.x64_subset.specs.declared.insn.Insn.{Insn}
 use Rattle.x64_subset.specs.Reading.{Answer, read}
 use Rattle.module_image.specs.declared.site.Site.{Site}
@@ -10,11 +10,12 @@ use Rattle.module_image.specs.declared.unit.Unit.{Unit}
 use Rattle.module_image.specs.declared.unit.Unit.TheVariants.{Nothing, Plain, Site as PatchedSite}
 use Rattle.module_image.specs.Layout.{Layout, is_patched_at, is_clear, no_site_between, site_at, text_end, plain_unit, unit_of, unit_at, len_of, unit_len, IsStart, IsSwept}
 use Rattle.module_image.specs.Layout.IsStart.{the_first, the_end}
+use Rattle.module_image.specs.Sweeping.{site_in}
 use Rattle.module_image.specs.Text.{AreInside, AreApart}
 use Rattle.module_image.proofs.Between.{all_at, clear_outside}
 use Rattle.module_image.proofs.Marking.{patched_parts, patched_from, some_len}
 use Rattle.module_image.proofs.Positions.{found_none, found_some}
-use Rattle.module_image.proofs.Starts.{noted_unit}
+use Rattle.module_image.proofs.Starts.{is_noted, noted_unit}
 
 -- a number that is found at an address is that of a site that isn't foreign and begins there
 pub record IsSiteAt (t : Layout) (at n : ℕ) : Type 0 where
@@ -171,3 +172,30 @@ swept_decoded t units swept a start = (noted_unit t units a swept start).3
 
 pub site_starts_swept : (t : Layout) (units : List Unit) (i : ℕ) (s : Site) → AreInside t.base (length t.text) t.sites → AreApart t.sites → IsSwept t units → slice_get t.sites i ≡ Some s → s.foreign ≡ false → IsStart t s.at
 site_starts_swept t units i s inside apart swept here ours = site_starts t i s inside apart (swept_decoded t units swept) here ours
+
+-- the site that is noted at an address is the one that begins there
+noted_site : (t : Layout) (units : List Unit) (k : ℕ) (o : Option Unit) → IsSwept t units → slice_get units k ≡ o → site_at t.sites (t.base + k) ≡ None → site_in o ≡ None
+noted_site t units k None swept here none = refl
+noted_site t units k (Some Nothing) swept here none = refl
+noted_site t units k (Some (Plain insn len)) swept here none = refl
+noted_site t units k (Some (PatchedSite n)) swept here none =
+    let there = is_noted t units k (PatchedSite n) swept here (λ e. cc) in
+    absurd (none-some n (sym none ∙ unit_site t (t.base + k) n there.1))
+
+pub site_noted : (t : Layout) (units : List Unit) (at : ℕ) → AreInside t.base (length t.text) t.sites → AreApart t.sites → IsSwept t units → (if nat_lt at t.base then None else site_in (slice_get units (at - t.base))) ≡ site_at t.sites at
+site_noted t units at inside apart swept = told (site_at t.sites at) refl
+  where
+    none : (before : Bool) → nat_lt at t.base ≡ before → site_at t.sites at ≡ None → (if before then None else site_in (slice_get units (at - t.base))) ≡ None
+    none true before is = refl
+    none false from is =
+        let le = ltb-false at t.base from in
+        let place : t.base + (at - t.base) ≡ at = omega (arith, le) in
+        noted_site t units (at - t.base) (slice_get units (at - t.base)) swept refl (ap (site_at t.sites) place ∙ is)
+
+    told : (o : Option ℕ) → site_at t.sites at ≡ o → (if nat_lt at t.base then None else site_in (slice_get units (at - t.base))) ≡ site_at t.sites at
+    told None is = none (nat_lt at t.base) refl is ∙ sym is
+    told (Some n) is =
+        let found = site_is t at n is in
+        let start = subst (IsStart t) found.same (site_starts_swept t units n found.site inside apart swept found.here found.ours) in
+        let there = noted_unit t units at swept start in
+        rw (le-ltb at t.base there.0) (ap site_in (there.2 ∙ ap (λ o. Some (unit_of t at o)) is) ∙ sym is)

@@ -13,7 +13,6 @@ use Rattle.module_image.specs.Early.{HaveCallLens}
 use Rattle.module_image.specs.Layout.{IsSwept, layout}
 use Rattle.module_image.specs.Aims.{AllLead, jump_aims, key_aims}
 use Rattle.module_image.specs.Refusals.{function_aims}
-use Rattle.module_image.specs.Sweeping.{AreMarks}
 use Rattle.module_image.specs.Text.{AreInside, AreApart, IsText}
 
 -- the text, sites and keys' addresses of a file
@@ -33,5 +32,4 @@ pub record IsSweptOf (elf : Elf) (found : Swept) : Type 0 where
   pub bytes : All (λ byte. byte < 256) found.text.items
   pub same_length : length found.text.items ≡ length (file_text elf)
   pub units : IsSwept (layout elf) found.units.items
-  pub marks : AreMarks (layout elf) found.marks.items
   pub leads : AllLead (layout elf) (jump_aims (sites elf)) (key_aims (keys elf)) (function_aims (functions elf))

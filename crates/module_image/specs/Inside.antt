@@ -3,10 +3,10 @@ use Rattle.std.specs.Prelude.{◌≡◌, ◌<◌, ◌≤◌, ◌+◌, ◌^◌, l
 use Rattle.module_image.specs.declared.image.Image.TheInside.{Inside}
 use Rattle.module_image.specs.declared.key.KeyClass.TheVariants.{Jump as JumpKey, Call as CallKey}
 use Rattle.module_image.specs.First.{HasNone}
+use Rattle.module_image.specs.Layout.{IsSwept}
 use Rattle.module_image.specs.Lent.{KeysAreKnown, NamesAreKnown}
 use Rattle.module_image.specs.Module.{Module, IsAccepted, layout_of, tracer_of}
 use Rattle.module_image.specs.Refusals.{IsTrace}
-use Rattle.module_image.specs.Sweeping.{AreMarks}
 use Rattle.module_image.specs.Text.{AreInside, AreApart}
 
 abbrev pub module_of : Inside → Module
@@ -29,7 +29,7 @@ pub record IsSound (i : Inside) : Type 0 where
   pub short : length i.text.items ≤ 65536
   pub inside : AreInside i.base (length i.text.items) i.sites.items
   pub apart : AreApart i.sites.items
-  pub marks : AreMarks (layout_of (module_of i)) i.marks.items
+  pub swept : IsSwept (layout_of (module_of i)) i.units.items
   pub few : length i.sites.items ≤ 1024
   pub tracer : i.tracer ≡ tracer_of (module_of i)
   pub few_keys : length i.keys.items ≤ 1024

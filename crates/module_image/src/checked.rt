@@ -6,8 +6,7 @@ ghost use Rattle.module_image.specs.Layout.{IsSwept, layout};
 ghost use Rattle.module_image.specs.Names.{functions};
 ghost use Rattle.module_image.specs.Refusals.{Passes, Tries, function_aims, past_all, past_bad_target, past_tracer_missing, past_undecoded};
 ghost use Rattle.module_image.specs.Sites.{sites};
-ghost use Rattle.module_image.specs.Sweeping.{AreMarks};
-ghost use Rattle.module_image.specs.Text.{AreInside, layout_in};
+ghost use Rattle.module_image.specs.Text.{AreApart, AreInside, layout_in};
 
 use crate::aims::bad_target;
 use crate::ending::falling_end;
@@ -20,23 +19,19 @@ use std::alloc::Global;
 ///
 /// # Errors
 /// `Undecoded`; out of memory.
-pub fn find_units(
-    alloc: Global,
-    file: &ElfFile<'_>,
-    code: &Code<'_>,
-    marks: &[Option<u32>],
-) -> Result<Vec<Unit>, Refused>
+pub fn find_units(alloc: Global, file: &ElfFile<'_>, code: &Code<'_>) -> Result<Vec<Unit>, Refused>
     requires passed { Passes file.now past_tracer_missing }
     requires laid { layout_in code.now ≡ layout file.now }
     requires some { 0 < length code.now.bytes.now }
     requires short { length code.now.bytes.now ≤ 65536 }
     requires below { code.now.base + length code.now.bytes.now < 2 ^ 64 }
     requires inside { AreInside code.now.base (length code.now.bytes.now) code.now.sites.now }
-    requires marks { AreMarks (layout_in code.now) marks.now }
+    requires apart { AreApart code.now.sites.now }
+    requires few { length code.now.sites.now ≤ 1024 }
     ensures tried { Tries file.now past_undecoded result }
     ensures swept { IfOk result (λ units. IsSwept (layout file.now) units.items) }
 {
-    sweep(alloc, code, marks)
+    sweep(alloc, code)
 }
 
 /// Looks for a jump, call, key or function that leads where no unit begins.

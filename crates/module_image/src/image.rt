@@ -27,7 +27,6 @@ pub struct Image {
     base: u64,
     text: Vec<u8>,
     units: Vec<Unit>,
-    marks: Vec<Option<u32>>,
     sites: Vec<Site>,
     keys: Vec<Key>,
     functions: Names<u64>,
@@ -81,7 +80,6 @@ impl Image {
             base: found.text.base,
             text: swept.text,
             units: swept.units,
-            marks: swept.marks,
             sites: found.sites,
             keys,
             functions: names.functions,
@@ -142,7 +140,7 @@ impl Image {
         ensures found { result ≡ site_at self.now.sites at }
         ensures site { IfSome result (IsPatchedSite self.now.sites at) }
     {
-        site_at(self.base, &self.marks, at)
+        site_at(self.base, &self.units, at)
     }
 
     /// The plain instruction that begins at an address, with its length in bytes, all of which are in the text. `None`

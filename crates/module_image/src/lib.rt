@@ -16,7 +16,6 @@ pub mod laws;
 mod lines;
 mod listing;
 mod lookup;
-mod marks;
 mod name_budget;
 mod names;
 mod naming;
@@ -24,6 +23,7 @@ mod refused;
 mod rows;
 mod site;
 mod site_list;
+mod site_units;
 mod sweep;
 #[cfg(test)]
 mod sweep_tests;

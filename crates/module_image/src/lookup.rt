@@ -1,8 +1,8 @@
-//! What begins at an address, by the tables of units and of sites.
+//! What begins at an address, by the table of units.
 ghost use Rattle.std.specs.Prelude.{◌≡◌, ◌-◌, nat_lt, if◌then◌else◌, slice_get, None};
 ghost use Rattle.module_image.specs.Leads.{begins_at};
 ghost use Rattle.module_image.specs.Module.{plain_of};
-ghost use Rattle.module_image.specs.Sweeping.{mark_of};
+ghost use Rattle.module_image.specs.Sweeping.{site_in};
 
 use crate::Unit;
 use x64_subset::Insn;
@@ -23,16 +23,25 @@ pub fn plain_at(base: u64, units: &[Unit], at: u64) -> Option<(Insn, u8)>
     }
 }
 
-/// The number of the site that isn't foreign and begins at an address. The marks are those of a text at the
+/// The number of the site that isn't foreign and begins at an address. The units are those of a text at the
 /// address `base`, by offset.
-pub fn site_at(base: u64, marks: &[Option<u32>], at: u64) -> Option<u32>
-    ensures { result ≡ (if nat_lt at base then None else mark_of (slice_get marks.now (at - base))) }
+pub fn site_at(base: u64, units: &[Unit], at: u64) -> Option<u32>
+    ensures { result ≡ (if nat_lt at base then None else site_in (slice_get units.now (at - base))) }
 {
     if at < base {
         return None;
     }
-    match marks.get((at - base) as usize).copied() {
-        Some(mark) => mark,
+    site_of(units, (at - base) as usize)
+}
+
+/// The number of the site that stands at an offset of a table of units, if one does.
+pub fn site_of(units: &[Unit], offset: usize) -> Option<u32>
+    ensures { result ≡ site_in (slice_get units.now offset) }
+{
+    match units.get(offset).copied() {
+        Some(Unit::Site(number)) => Some(number),
+        Some(Unit::Nothing) => None,
+        Some(Unit::Plain(_, _)) => None,
         None => None,
     }
 }

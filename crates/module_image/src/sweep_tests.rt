@@ -5,7 +5,6 @@ ghost use Rattle.module_image.specs.Text.{IsInside};
 use crate::aims::bad_target;
 use crate::ending::falling_end;
 use crate::lookup::{plain_at, site_at};
-use crate::marks::site_marks;
 use crate::sweep::sweep;
 use crate::{Aim, Code, Refused, Site, SiteKind, Unit};
 use std::alloc::Global;
@@ -58,10 +57,9 @@ fn find(alloc: Global, bytes: &[u8], site: Site) -> Result<Found, Refused>
         bytes,
         sites: &sites,
     };
-    let marks = site_marks(alloc, &code)?;
-    let units = sweep(alloc, &code, &marks)?;
+    let units = sweep(alloc, &code)?;
     Ok(Found {
-        site: site_at(BASE, &marks, BASE),
+        site: site_at(BASE, &units, BASE),
         plain: plain_at(BASE, &units, BASE + 5),
         bad: bad_target(&code, &units, &[], &[BASE]),
         end: falling_end(&code, &units),

@@ -7,7 +7,6 @@ ghost use Rattle.module_image.specs.Refusals.{Passes, Tries, function_aims, past
 
 use crate::checked::{end_falls, find_units, targets};
 use crate::finding::Found;
-use crate::marks::site_marks;
 use crate::writing::write_sites;
 use crate::{Code, Key, Refused, Unit};
 use elf_module::ElfFile;
@@ -17,8 +16,6 @@ use std::alloc::Global;
 #[derive(Drop)]
 pub struct Swept {
     pub text: Vec<u8>,
-    /// By offset, the number of the site that isn't foreign and begins there.
-    pub marks: Vec<Option<u32>>,
     /// By offset, the site or plain instruction that begins there.
     pub units: Vec<Unit>,
 }
@@ -50,10 +47,9 @@ impl Swept {
             bytes: &text,
             sites: &found.sites,
         };
-        let marks = site_marks(alloc, &code)?;
-        let units = find_units(alloc, file, &code, &marks)?;
+        let units = find_units(alloc, file, &code)?;
         targets(file, &code, &units, list, addresses)?;
         end_falls(file, &code, &units)?;
-        Ok(Swept { text, marks, units })
+        Ok(Swept { text, units })
     }
 }

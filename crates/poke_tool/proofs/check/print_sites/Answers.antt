@@ -23,8 +23,8 @@ returns-in_err-print g c =
     subst (λ (text : List ℕ). Prints {T = Unit {0}} {E = WriteFail} (g.H.Host.outside c.args.host.now) (g.H.Host.outside c.print.new.self) text (Err c.in_err-print.field-0.0))
     (
     ap (λ (sites : List Site). site_lines c.base-base.result c.text-text.result.now sites) c.sites-site-items.ensures.sites
-    ∙ ap (λ (base : ℕ). site_lines base c.text-text.result.now c.args.image.now.sites) c.base-base.ensures
-    ∙ ap (λ (text : List ℕ). site_lines c.args.image.now.base text c.args.image.now.sites) c.text-text.ensures
+    ∙ ap (λ (base : ℕ). site_lines base c.text-text.result.now c.args.image.now.sites) c.base-base.ensures.base
+    ∙ ap (λ (text : List ℕ). site_lines c.args.image.now.base text c.args.image.now.sites) c.text-text.ensures.text
     )
     (item_failed (line_of c.base-base.result c.text-text.result.now) c.sites-site-items.result.now c.loop-site.site-index at_sites c.deref.result.now c.in_err-print.field-0.0 _ _ _ (slice_get-get_or c.sites-site-items.result.now c.loop-site.site-index blank c.loop-site-test.true) c.loop-site.invariant (c.deref.ensures.0 ∙ c.site_line.ensures ∙ ap (λ (code : List ℕ). site_line at_sites code) c.code_of.ensures.code) c.in_err-print.ensures)
     )

@@ -1,14 +1,10 @@
-use Rattle.std.proofs.Common.{◌≡◌, ◌∙◌, List, ℕ, ap, arith, length, sym}
+use Rattle.std.proofs.Common.{◌∙◌, List, ℕ, ap, arith, length, sym}
 use Rattle.std.proofs.lemmas.Result.{err_from_is_err_and}
-use Rattle.module_image.specs.declared.site.Site.{Site}
 use Rattle.module_image.specs.declared.key.KeyClass.TheVariants.{Jump}
 use Rattle.module_image.specs.Keys.{key_addresses}
-use Rattle.module_image.specs.Layout.{laid, layout}
-use Rattle.module_image.specs.Module.{IsModule}
 use Rattle.module_image.specs.Names.{functions_from, keys_from, value_of}
-use Rattle.module_image.specs.Sites.{sites, text}
 use Rattle.module_image.proofs.Lent.{sound_of}
-use Rattle.module_image.proofs.Sound.{found_aims, found_marks}
+use Rattle.module_image.proofs.Sound.{found_aims}
 use Rattle.module_image.proofs.image.Image.accept.Goals as goal
 
 pub of-requires-3-clause-functions : goal.of-requires-3-clause-functions
@@ -20,13 +16,6 @@ invariant_of-result c =
     let found = c.in_ok-found.ensures.found in
     let swept = c.in_ok-swept.ensures.swept in
     let names = c.in_ok-names.ensures.names in
-    let at = c.in_ok-found.found.text.base in
-    let bytes = c.in_ok-swept.swept.text.items in
-    let list = c.in_ok-found.found.sites.items in
-    let same : layout c.args.file.now ≡ laid at bytes list =
-    ap (λ (b : ℕ). laid b (text c.args.file.now) (sites c.args.file.now)) (sym found.is_text.same_base)
-    ∙ ap (λ (t : List ℕ). laid at t (sites c.args.file.now)) (sym swept.has_text)
-    ∙ ap (λ (ss : List Site). laid at bytes ss) (sym found.has_sites) in
     let below = found.is_text.below in
     let size = ap length found.is_text.same_bytes ∙ sym swept.same_length in
     sound_of _ c.args.file.now
@@ -46,8 +35,7 @@ invariant_of-result c =
           names.call_keys q
           ∙ ap (λ (n : ℕ). value_of q (keys_from n c.in_ok-found.found.addresses.calls.items c.args.file.now.symbols)) (ap length found.jumps)
           ∙ ap (λ (ks : List ℕ). value_of q (keys_from (length (key_addresses c.args.file.now Jump)) ks c.args.file.now.symbols)) found.calls;
-    })
-    (found_marks c.args.file.now at bytes list c.in_ok-swept.swept.marks.items same swept.marks) c.get-tracer.ensures
+    }) c.get-tracer.ensures
 
 pub returns-in_err-tracer_missing-clause-refused : goal.returns-in_err-tracer_missing-clause-refused
 returns-in_err-tracer_missing-clause-refused c =
