@@ -132,7 +132,7 @@ pub fn tail(at: u64, key: u32) -> PlanSite {
 }
 
 /// A name of these bytes.
-fn name(bytes: &[u8]) -> Name {
+pub fn name(bytes: &[u8]) -> Name {
     let mut name = Name::new();
     let _ = name.try_extend_from_slice(bytes);
     name
