@@ -159,6 +159,24 @@ fn fields_are_read_without_names(rt: HostRuntime) {
     assert_eq!(rt; file.byte_count(), 896);
 }
 
+/// Whether the section with an index has a name, where there is one.
+fn is_section(file: &ElfFile<'_>, i: u16, name: &[u8]) -> Option<bool> {
+    if i < file.section_count() {
+        Some(file.is_section_named(i, name))
+    } else {
+        None
+    }
+}
+
+/// Whether the symbol with a number has a name, where there is one.
+fn is_symbol(file: &ElfFile<'_>, i: u32, name: &[u8]) -> Option<bool> {
+    if i < file.symbol_count() {
+        Some(file.is_symbol_named(i, name))
+    } else {
+        None
+    }
+}
+
 #[test]
 fn names_are_compared_whole(rt: HostRuntime) {
     let file = ElfFile::read(MODULE).expect(&rt, "a module");
@@ -171,10 +189,12 @@ fn names_are_compared_whole(rt: HostRuntime) {
         (b"fj", false, false),
     ];
     for (name, section, symbol) in rows {
-        assert_eq!(rt; file.is_section_named(1, name), section);
-        assert_eq!(rt; file.is_symbol_named(1, name), symbol);
+        assert_eq!(rt; is_section(&file, 1, name), Some(section));
+        assert_eq!(rt; is_symbol(&file, 1, name), Some(symbol));
     }
-    assert_eq!(rt; file.is_symbol_named(0, b""), true);
+    assert_eq!(rt; is_symbol(&file, 0, b""), Some(true));
+    assert_eq!(rt; is_section(&file, 9, b""), None);
+    assert_eq!(rt; is_symbol(&file, 3, b""), None);
 }
 
 /// An empty section stands in the file too: its offset is at most the file's length.
