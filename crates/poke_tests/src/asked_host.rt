@@ -70,20 +70,20 @@ impl Host for AskedHost {
 
 #[test]
 fn the_one_name_is_asked(rt: HostRuntime) -> Result<(), Fail> {
-    let rows: [(&[&str], &str, AskedBy); 4] = [
-        (&["plan", "p"], "p", AskedBy::Read),
-        (&["show", "m"], "m", AskedBy::Read),
-        (&["check", "m"], "m", AskedBy::Read),
-        (&["make", "10", "m"], "m", AskedBy::Make),
+    let rows: [(&[&str], &[u8], AskedBy); 4] = [
+        (&["plan", "p"], b"p", AskedBy::Read),
+        (&["show", "m"], b"m", AskedBy::Read),
+        (&["check", "m"], b"m", AskedBy::Read),
+        (&["make", "10", "m"], b"m", AskedBy::Make),
     ];
     let alloc = rt.alloc();
     for (list, name, by) in rows {
         let mut host = AskedHost::new(alloc);
         let _ = textpoke(alloc, &words(alloc, list)?, &mut host);
         let asked = host.asked();
-        assert_eq!(rt; asked.len(), 1, "{name}");
-        assert_eq!(rt; asked[0].0.as_str(), name);
-        assert_eq!(rt; asked[0].1, by, "{name}");
+        assert_eq!(rt; asked.len(), 1);
+        assert_eq!(rt; asked[0].0.as_bytes(), name);
+        assert_eq!(rt; asked[0].1, by);
     }
     Ok(())
 }

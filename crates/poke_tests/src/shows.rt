@@ -125,13 +125,15 @@ fn modules_are_refused(rt: HostRuntime) -> Result<(), Fail> {
 fn cut_modules_are_refused(rt: HostRuntime) -> Result<(), Fail> {
     let module = changed(rt.alloc(), &[])?;
     assert_eq!(rt; module.len(), 896);
+    let a_byte_less = module.get(..895).expect(&rt, "895 bytes");
+    let header = module.get(..64).expect(&rt, "64 bytes");
     let rows: [(&str, &[u8], &[u8]); 5] = [
         (
             "a byte less",
-            &module[..module.len() - 1],
+            a_byte_less,
             b"textpoke: module: Headers 28\n",
         ),
-        ("a header", &module[..64], b"textpoke: module: Headers 28\n"),
+        ("a header", header, b"textpoke: module: Headers 28\n"),
         ("64 zeros", &[0; 64], b"textpoke: module: Magic 0\n"),
         ("63 zeros", &[0; 63], b"textpoke: module: Short 3f\n"),
         ("no bytes", b"", b"textpoke: module: Short 0\n"),
