@@ -30,10 +30,8 @@ impl Changes {
         ensures empty { IfOk result (λ changes. changes.list ≡ []) }
         ensures room { IfOk result (λ changes. changes.room ≡ n) }
     {
-        match Vec::with_capacity(alloc, n as usize) {
-            Ok(items) => Ok(Changes { items }),
-            Err(_) => Err(NoMemory),
-        }
+        let items = Vec::with_capacity(alloc, n as usize)?;
+        Ok(Changes { items })
     }
 
     /// Empties the list; its room stays.

@@ -6,7 +6,7 @@ ghost use Rattle.insn_forms.specs.Displacement.{leads};
 ghost use Rattle.insn_forms.specs.Spelling.{size, after, spell, BeginsWith};
 
 use crate::displacement::{displacement8, displacement32, target8, target32};
-use poke_base::CodeBytes;
+use poke_base::{CodeBytes, code_bytes};
 use thiserror::Error;
 
 /// An instruction that a patched site may hold. A jump or call has its target, an address.
@@ -128,17 +128,6 @@ fn far_target(at: u64, bytes: &[u8]) -> Option<u64>
 {
     let rel32 = bytes.get(1..5)?.try_into().ok()?;
     Some(target32(at.wrapping_add(5), rel32))
-}
-
-/// The bytes of an instruction: the first, and those after it.
-fn code_bytes(first: u8, rest: &[u8]) -> CodeBytes
-    requires { length rest.now ≤ 8 }
-    ensures { result.items ≡ first ∷ rest.now }
-{
-    let mut code = CodeBytes::new();
-    code.push(first);
-    let _ = code.try_extend_from_slice(rest);
-    code
 }
 
 #[cfg(test)]
