@@ -10,12 +10,14 @@ use insn_forms::{Changes, Form, Held};
 use poke_base::{CodeBytes, NoMemory};
 use std::alloc::Global;
 use std::marker::Model;
+use thiserror::Error;
 
 /// How many processors there may be.
 const MOST_CPUS: usize = 16;
 
 /// A site that holds other bytes than those of the form that it is recorded to hold.
-#[derive(Debug, PartialEq, Eq, Drop)]
+#[derive(Debug, PartialEq, Eq, Drop, Error)]
+#[error("the site at {at:x} holds other bytes than those of its old form")]
 pub struct Clash {
     /// The address of the site.
     pub at: u64,
@@ -86,19 +88,17 @@ impl Batch {
         requires most_cpus { cpus ≤ 16 }
         ensures { IfOk result (λ batch. batch ≡ record { sites = sites; cpus = cpus; update = None }) }
     {
-        match Vec::with_capacity(alloc, sites as usize) {
-            Ok(patches) => Ok(Batch {
-                sites,
-                cpus,
-                patches,
-                progress: Progress {
-                    from: 0,
-                    stage: Stage::Idle,
-                },
-                acks: [false; MOST_CPUS],
-            }),
-            Err(_) => Err(NoMemory),
-        }
+        let patches = Vec::with_capacity(alloc, sites as usize)?;
+        Ok(Batch {
+            sites,
+            cpus,
+            patches,
+            progress: Progress {
+                from: 0,
+                stage: Stage::Idle,
+            },
+            acks: [false; MOST_CPUS],
+        })
     }
 
     /// Opens an update. The batch has to be idle; the changes are at least one and at most as many

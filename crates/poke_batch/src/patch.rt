@@ -69,11 +69,24 @@ fn patch_of<T: Held>(change: Change, text: &T) -> Result<Patch, Clash>
     ensures holds { OnOk result (holds_old (T.held_byte text.now) change ≡ true) }
     ensures clash { IfErr result (ClashesAt (T.held_byte text.now) change) }
 {
+    expect_old(change, text)?;
+    let code = spelled(change.new, change.at);
+    Ok(Patch { change, code })
+}
+
+/// A look whether the site of a change holds the bytes of its old form.
+///
+/// # Errors
+/// The site holds other bytes.
+fn expect_old<T: Held>(change: Change, text: &T) -> Result<(), Clash>
+    requires { IsPatchable (T.held_byte text.now) change }
+    ensures holds { OnOk result (holds_old (T.held_byte text.now) change ≡ true) }
+    ensures clash { IfErr result (ClashesAt (T.held_byte text.now) change) }
+{
     let found = held_bytes(text, change.at, change.old.size());
     let expected = spelled(change.old, change.at);
     if found.as_slice() == expected.as_slice() {
-        let code = spelled(change.new, change.at);
-        Ok(Patch { change, code })
+        Ok(())
     } else {
         Err(Clash {
             at: change.at,

@@ -9,8 +9,8 @@ pub invariant_of-result : goal.invariant_of-result
 invariant_of-result c = record {
   some_cpus = c.requires.some_cpus;
   most_cpus = c.requires.most_cpus;
-  room = omega (arith, c.in-Ok.ensures.exact);
-  spelt = subst (λ (patches : List Patch). All IsSpelt patches) (sym c.in-Ok.ensures.items) (All-nil IsSpelt);
+  room = omega (arith, c.in_ok-patches.ensures.exact);
+  spelt = subst (λ (patches : List Patch). All IsSpelt patches) (sym c.in_ok-patches.ensures.items) (All-nil IsSpelt);
   from = omega arith;
   within = λ active. absurd (cc);
   inside = tt;
