@@ -1,11 +1,10 @@
 -- What of an accepted module's text is the file's.
-use Rattle.std.proofs.Common.{◌≡◌, ◌∙◌, ◌≤◌, ◌<◌, ◌+◌, ◌-◌, ◌⊎◌, inl, inr, ℕ, zero, suc, false, List, [], ◌∷◌, take, drop, length, Some, slice_get, refl, sym, ap, subst, arith}
+use Rattle.std.proofs.Common.{◌≡◌, ◌∙◌, ◌+◌, ◌-◌, inl, inr, ℕ, zero, suc, false, List, [], ◌∷◌, take, drop, length, Some, slice_get, refl, sym, ap, subst, arith}
 use Rattle.elf_module.specs.Elf.{Elf}
 use Rattle.module_image.specs.declared.site.Site.{Site}
 use Rattle.module_image.specs.Entries.{base, file_text}
 use Rattle.module_image.specs.Held.{ForeignSitesAreTheFiles, IsBeside, LengthIsTheFiles, OtherBytesAreTheFiles}
 use Rattle.module_image.specs.Keys.{keys}
-use Rattle.module_image.specs.Module.{IsModule, Module}
 use Rattle.module_image.specs.Refusals.{Passes, past_all, past_site_overlap}
 use Rattle.module_image.specs.Sites.{code_at, sites, starts_of, text}
 use Rattle.module_image.proofs.HeldForms.{code_of_file, foreign_kept, site_of_file}

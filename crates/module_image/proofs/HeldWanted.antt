@@ -48,7 +48,7 @@ wanted_held m i s form accepted get own want =
     let elf = accepted.elf in
     let is = accepted.is in
     let passes : Passes elf past_site_overlap = passes_before elf past_site_overlap past_all (omega arith) is.passes in
-    let reached = forms_reach m (first_states m) i s form accepted (first_lead m accepted) get own want in
+    let reached = forms_reach m (first_states m) i s form accepted (first_lead m accepted) get want in
     let early : spell (early_form (starts_of (keys elf)) s) s.at ≡ Some reached.0 = ap (λ (f : Form). spell f s.at) (sym (first_want elf m i s form is get want)) ∙ reached.1 in
     let held =
     sites_hold (base elf) (length (file_text elf)) (starts_of (keys elf)) (sites elf) (file_text elf) i s reached.0 refl (inside_passed elf passes)

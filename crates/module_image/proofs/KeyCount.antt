@@ -1,5 +1,5 @@
 -- How many keys there are: no more than entries.
-use Rattle.std.proofs.Common.{◌≡◌, ◌≤◌, ◌+◌, ℕ, List, [], ◌∷◌, length, map, Option, arith}
+use Rattle.std.proofs.Common.{◌≤◌, ◌+◌, ℕ, List, [], ◌∷◌, length, map, arith}
 use Rattle.std.proofs.lemmas.List.{length-append, length-map}
 use Rattle.elf_module.specs.Elf.{Elf}
 use Rattle.module_image.specs.declared.entry.Entry.{Entry}

@@ -10,8 +10,7 @@ use Rattle.module_image.specs.declared.key.Key.{Key}
 use Rattle.module_image.specs.declared.key.KeyClass.{KeyClass}
 use Rattle.module_image.specs.declared.key.KeyClass.TheVariants.{Jump as JumpKey, Call as CallKey}
 use Rattle.module_image.specs.declared.site.Site.{Site}
-use Rattle.module_image.specs.declared.site.SiteKind.{SiteKind}
-use Rattle.module_image.specs.declared.site.SiteKind.TheVariants.{Jump, Call, Tail, Trace}
+use Rattle.module_image.specs.declared.site.SiteKind.TheVariants.{Call, Tail}
 use Rattle.module_image.specs.Entries.{base, entries, file_text}
 use Rattle.module_image.specs.Keys.{key_in, with_key, with_named, gathered, key_addresses, place_in, number_of, key_of, keys}
 use Rattle.module_image.specs.Lent.{IsKeyOf, IsKeyed}

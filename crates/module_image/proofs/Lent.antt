@@ -1,14 +1,14 @@
 -- What an accepted module promises to whoever is lent it.
-use Rattle.std.proofs.Common.{◌≡◌, ◌∙◌, ◌<◌, ◌≤◌, ◌+◌, ◌-◌, ◌⊎◌, inl, inr, ℕ, zero, suc, true, List, [], ◌∷◌, drop, length, nat_lt, Option, Some, None, Ok, slice_get, refl, sym, ap, subst, arith}
-use Rattle.std.specs.List.{All}
-use Rattle.std.specs.Prelude.{IfSome, MatchOption}
-use Rattle.std.proofs.lemmas.Bool.{and_parts, eqb-true, le-ltb}
+use Rattle.std.proofs.Common.{◌≡◌, ◌∙◌, ◌<◌, ◌≤◌, ◌+◌, ◌-◌, ◌%◌, ◌^◌, ◌⊎◌, inl, inr, ℕ, true, List, [], drop, length, nat_lt, Option, Some, None, slice_get, refl, sym, ap, subst, arith}
+use Rattle.std.specs.Prelude.{IfSome, IsSome, MatchOption}
+use Rattle.std.proofs.lemmas.Bool.{and_parts, cases_lt, le-ltb}
 use Rattle.std.proofs.lemmas.Option.{slice_get_within}
 use Rattle.elf_module.specs.Elf.{Elf}
 use Rattle.x64_subset.specs.declared.insn.Insn.{Insn}
-use Rattle.x64_subset.specs.Reading.{read}
 use Rattle.x64_subset.proofs.WhatIsRead.{what_is_read}
 use Rattle.module_image.specs.declared.image.Image.TheInside.{Inside}
+use Rattle.module_image.specs.declared.key.Key.{Key}
+use Rattle.module_image.specs.declared.key.KeyClass.{KeyClass}
 use Rattle.module_image.specs.declared.site.Site.{Site}
 use Rattle.module_image.specs.declared.site.SiteKind.{SiteKind}
 use Rattle.module_image.specs.declared.site.SiteKind.TheVariants.{Jump, Call, Tail, Trace}
@@ -17,17 +17,18 @@ use Rattle.module_image.specs.declared.unit.Unit.TheVariants.{Nothing, Plain, Si
 use Rattle.module_image.specs.First.{HasNone}
 use Rattle.module_image.specs.Flows.{HasInsn, HasSite, StartsHaveUnits}
 use Rattle.module_image.specs.Inside.{IsSound, module_of}
-use Rattle.module_image.specs.Layout.{IsStart, IsSwept, Layout, site_at, unit_at, unit_len, unit_of}
-use Rattle.module_image.specs.Lent.{IsInsnAt, IsPatchedSite, IsPlaceOf, IsTraceSite}
+use Rattle.module_image.specs.Layout.{Layout, site_at, unit_at, unit_len, unit_of}
+use Rattle.module_image.specs.Keys.{keys}
+use Rattle.module_image.specs.Lent.{CountsFit, IsInsnAt, IsLaidOut, IsPatchedSite, IsPlaceOf, IsTraceSite, KeyNamesAreKnown, SitesAreLaidOut, TraceSitesAreFound, TraceSitesHaveATracer}
 use Rattle.module_image.specs.Module.{IsModule, Module, first_of, is_trace, is_trace_at, layout_of, plain_at, plain_of, trace_at, tracer_of}
 use Rattle.module_image.specs.Names.{tracer_name, value_of}
-use Rattle.module_image.specs.Refusals.{IsTrace, past_all, past_site_count, past_site_overlap, past_tracer_missing}
+use Rattle.module_image.specs.Refusals.{IsBadState, IsTrace, past_all, past_key_state, past_site_count, past_site_overlap, past_tracer_missing}
 use Rattle.module_image.specs.Sites.{sites}
 use Rattle.module_image.proofs.Grounds.{module_ground}
 use Rattle.module_image.proofs.KeyCount.{few_keys}
 use Rattle.module_image.proofs.KeyNumbers.{site_keyed}
 use Rattle.module_image.proofs.NamedKeys.{call_names_known, jump_names_known}
-use Rattle.module_image.proofs.Passed.{none_traced}
+use Rattle.module_image.proofs.Passed.{none_negative, none_traced}
 use Rattle.module_image.proofs.PlainFlows.{plain_past}
 use Rattle.module_image.proofs.Positions.{found_some}
 use Rattle.module_image.proofs.Sound.{few_passed, passes_before}
@@ -42,27 +43,60 @@ no_trace elf m is missing =
     subst (HasNone IsTrace) (sym is.has_sites)
     (none_traced elf (passes_before elf past_tracer_missing past_all (omega arith) is.passes) (sym (is.named_functions tracer_name) ∙ missing))
 
+-- where the sites of a module lie, and that there are few
+laid_out : (elf : Elf) (m : Module) → IsModule elf m → IsLaidOut m
+laid_out elf m is =
+    let ground = module_ground elf m is in
+    record {
+      inside = ground.inside;
+      apart = ground.apart;
+      few = subst (λ (ss : List Site). length ss ≤ 1024) (sym is.has_sites) (few_passed elf (passes_before elf past_site_overlap past_all (omega arith) is.passes));
+      known = λ k s here. site_keyed elf m k s is here;
+      few_keys = subst (λ ks. length ks ≤ 1024) (sym is.has_keys) (few_keys elf (passes_before elf past_site_count past_all (omega arith) is.passes));
+      below = is.below;
+    }
+
+pub sites_laid_out : SitesAreLaidOut
+sites_laid_out m accepted = laid_out accepted.elf m accepted.is
+
 -- what holds of a module holds of what an accepted one keeps
 pub sound_of : (i : Inside) (elf : Elf) → IsModule elf (module_of i) → i.tracer ≡ tracer_of (module_of i) → IsSound i
 sound_of i elf is tracer =
     let m = module_of i in
-    let ground = module_ground elf m is in
+    let laid = laid_out elf m is in
     record {
       is = record { elf = elf; is = is };
-      below = is.below;
+      below = laid.below;
       some = some_bytes elf m is;
       short = few_bytes elf m is;
-      inside = ground.inside;
-      apart = ground.apart;
-      swept = ground.swept;
+      inside = laid.inside;
+      apart = laid.apart;
+      swept = (module_ground elf m is).swept;
       tracer = tracer;
-      few = subst (λ (ss : List Site). length ss ≤ 1024) (sym is.has_sites) (few_passed elf (passes_before elf past_site_overlap past_all (omega arith) is.passes));
-      few_keys = subst (λ ks. length ks ≤ 1024) (sym is.has_keys) (few_keys elf (passes_before elf past_site_count past_all (omega arith) is.passes));
-      known = λ k s here. site_keyed elf m k s is here;
+      few = laid.few;
+      few_keys = laid.few_keys;
+      known = laid.known;
       no_tracer = no_trace elf m is;
       jump_names = jump_names_known elf m is;
       call_names = call_names_known elf m is;
     }
+
+-- names stand for keys
+pub key_names_known : KeyNamesAreKnown
+key_names_known m accepted =
+    (jump_names_known accepted.elf m accepted.is, call_names_known accepted.elf m accepted.is)
+
+-- counts of the file aren't negative
+pub counts_fit : CountsFit
+counts_fit m k key accepted here class =
+    let elf = accepted.elf in
+    let is = accepted.is in
+    let there : slice_get (keys elf) k ≡ Some key = ap (λ (ks : List Key). slice_get ks k) (sym is.has_keys) ∙ here in
+    let fails = none_negative elf (passes_before elf past_key_state past_all (omega arith) is.passes) k key there in
+    elim (cases_lt key.start (2 ^ 31)) [
+      | inl below ↦ below
+      | inr past ↦ absurd (fails (subst (λ (c : KeyClass). IsBadState c key.start) (sym class) past))
+    ]
 
 -- a number that is found at an address is that of a patched site there
 pub patched_site : (sites : List Site) (at : ℕ) (o : Option ℕ) → o ≡ site_at sites at → IfSome o (IsPatchedSite sites at)
@@ -88,6 +122,22 @@ trace_site sites at n is =
       here = found.here;
       is = trace_told found.item.kind (and_parts (is_trace found.item.kind) _ found.passes).0;
     }
+
+first_trace : (sites : List Site) (at after n : ℕ) (o : Option ℕ) → trace_at sites at ≡ o → first_of o (trace_at sites after) ≡ Some n → IsTraceSite sites n
+first_trace sites at after n None is found = trace_site sites after n found
+first_trace sites at after n (Some first) is found = trace_site sites at n (is ∙ found)
+
+pub trace_sites_found : TraceSitesAreFound
+trace_sites_found m function n accepted found =
+    first_trace m.sites function ((function + 4) % 2 ^ 64) n (trace_at m.sites function) refl found
+
+-- where there is a trace site there is a tracer
+pub trace_sites_traced : TraceSitesHaveATracer
+trace_sites_traced m i accepted trace = by (tracer_of m) refl
+  where
+    by : (o : Option ℕ) → tracer_of m ≡ o → IsSome o
+    by None missing = absurd (no_trace accepted.elf m accepted.is missing i trace.site trace.here trace.is)
+    by (Some at) is = refl
 
 -- what a name of a function stands for is a place of the text
 pub place_of : (elf : Elf) (m : Module) (name : List ℕ) (o : Option ℕ) → IsModule elf m → o ≡ value_of name m.functions → IfSome o (IsPlaceOf m)

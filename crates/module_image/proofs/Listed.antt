@@ -4,7 +4,6 @@ use Rattle.std.specs.List.{range_with_len}
 use Rattle.std.proofs.lemmas.Simd.{map-map}
 use Rattle.std.proofs.lemmas.List.FromFn.{length-map-range_with_len, map-range_with_len_more}
 use Rattle.elf_module.specs.Elf.{SectionRecord}
-use Rattle.elf_module.specs.declared.records.Section.{Section}
 use Rattle.site_tables.specs.declared.entries.TableKind.{TableKind}
 use Rattle.site_tables.specs.declared.entries.TableKind.TheVariants.{Jump as JumpTable, Call as CallTable, Trace as TraceTable}
 use Rattle.site_tables.specs.declared.tables.Table.{Table}
@@ -12,7 +11,7 @@ use Rattle.site_tables.specs.declared.tables.Tables.{Tables}
 use Rattle.site_tables.specs.Entry.{entry_size, jump_in, call_in, trace_in}
 use Rattle.site_tables.specs.Found.{AreWhole, IsWhole, section_in}
 use Rattle.site_tables.specs.Tables.{content_of, entries_in}
-use Rattle.site_tables.proofs.Wholes.{section_entries, section_there, whole_entries}
+use Rattle.site_tables.proofs.Wholes.{whole_entries}
 use Rattle.module_image.specs.declared.entry.Entry.{Entry}
 use Rattle.module_image.specs.Entries.{jump_entry, call_entry, trace_entry}
 use Rattle.module_image.specs.Tables.{entry_in, table_entries, entries_of}

@@ -1,5 +1,5 @@
 -- The names of an accepted module's keys stand for keys of their class.
-use Rattle.std.proofs.Common.{◌≡◌, ◌∙◌, ◌==◌, ◌<◌, ◌+◌, ℕ, Bool, true, false, not, nat_lt, List, [], ◌∷◌, length, Option, Some, if◌then◌else◌, refl, sym, subst, arith}
+use Rattle.std.proofs.Common.{◌≡◌, ◌∙◌, ◌==◌, ◌<◌, ◌+◌, ℕ, Bool, true, false, not, nat_lt, List, [], ◌∷◌, length, Some, if◌then◌else◌, refl, sym, subst, arith}
 use Rattle.std.specs.Str.{bytes_eq}
 use Rattle.std.proofs.lemmas.Bool.{and_parts, ltb-true}
 use Rattle.std.proofs.lemmas.Option.{none-some, same_Some}
@@ -9,7 +9,7 @@ use Rattle.module_image.specs.declared.key.KeyClass.TheVariants.{Jump as JumpKey
 use Rattle.module_image.specs.Keys.{key_addresses, keys, place_in}
 use Rattle.module_image.specs.Lent.{IsKeyOf, NamesAreKnown}
 use Rattle.module_image.specs.Module.{IsModule, Module}
-use Rattle.module_image.specs.Names.{is_key, key_names, keys_from, value_of}
+use Rattle.module_image.specs.Names.{is_key, keys_from, value_of}
 use Rattle.module_image.proofs.KeyNumbers.{call_place, jump_place}
 
 -- the number that a name stands for is that of one of the keys

@@ -1,22 +1,17 @@
 -- What the tries of conditions have shown: from a place to the next, and of a module that has passed.
-use Rattle.std.proofs.Common.{◌≡◌, ◌≢◌, ◌<◌, ◌≤◌, ◌+◌, ◌^◌, ◌⊎◌, ℕ, List, length, Option, Some, None, sym, subst, arith, refl, inl, inr}
-use Rattle.std.specs.List.{slice_get}
-use Rattle.std.proofs.lemmas.Bool.{cases_lt, cases_eq}
+use Rattle.std.proofs.Common.{◌≡◌, ◌<◌, ◌≤◌, ◌+◌, ℕ, List, length, None, subst, arith, refl, inl, inr}
+use Rattle.std.proofs.lemmas.Bool.{cases_lt}
 use Rattle.elf_module.specs.Elf.{Elf}
 use Rattle.module_image.specs.declared.entry.Entry.{Entry}
-use Rattle.module_image.specs.declared.entry.EntryKind.{EntryKind}
-use Rattle.module_image.specs.declared.entry.EntryKind.TheVariants.{Jump as JumpEntry, Call as CallEntry, Tail as TailEntry, Trace as TraceEntry}
 use Rattle.module_image.specs.declared.key.Key.{Key}
-use Rattle.module_image.specs.declared.key.KeyClass.{KeyClass}
-use Rattle.module_image.specs.declared.key.KeyClass.TheVariants.{Jump as JumpKey}
 use Rattle.module_image.specs.declared.refused.Refused.{Refused}
-use Rattle.module_image.specs.declared.refused.Refused.TheVariants.{TextCount, SiteCount, SiteOutside, SiteLength, SiteOverlap, KeyOutside, KeyState, NoReach, TracerMissing}
+use Rattle.module_image.specs.declared.refused.Refused.TheVariants.{TextCount, SiteCount, SiteOutside, SiteLength, KeyOutside, KeyState, NoReach, TracerMissing}
 use Rattle.module_image.specs.First.{HasNone, IsFirst}
-use Rattle.module_image.specs.Entries.{base, file_text, entries, length_at}
+use Rattle.module_image.specs.Entries.{entries}
 use Rattle.module_image.specs.Keys.{keys}
 use Rattle.module_image.specs.Names.{tracer}
-use Rattle.module_image.specs.Sites.{sites, entry_len, overlap_after}
-use Rattle.module_image.specs.Refusals.{HasBadLength, HasBadState, Holds, IsBadLength, IsBadState, IsKeyOutside, IsOutOfReach, IsOutside, IsRefusedFor, IsTrace, Passes, order, past_key_outside, past_no_reach, past_site_count, past_site_length, past_site_outside, past_site_overlap, past_tracer_missing}
+use Rattle.module_image.specs.Sites.{sites}
+use Rattle.module_image.specs.Refusals.{HasBadLength, HasBadState, Holds, IsKeyOutside, IsOutOfReach, IsOutside, IsRefusedFor, IsTrace, Passes, order, past_key_outside, past_key_state, past_no_reach, past_site_count, past_site_length, past_site_outside, past_site_overlap, past_tracer_missing}
 use Rattle.module_image.proofs.Firsts.{has_none, none_first}
 
 -- no condition stands before the first
@@ -77,6 +72,10 @@ none_outside elf passes = has_none (IsOutside elf) (entries elf) (λ e first. pa
 -- no jump entry lacks a length
 pub none_without_length : (elf : Elf) → Passes elf past_site_length → HasNone (HasBadLength elf) (entries elf)
 none_without_length elf passes = has_none (HasBadLength elf) (entries elf) (λ e first. passes.none (SiteLength e.at) (omega arith) (e, first, refl))
+
+-- no count is negative
+pub none_negative : (elf : Elf) → Passes elf past_key_state → HasNone HasBadState (keys elf)
+none_negative elf passes = has_none HasBadState (keys elf) (λ k first. passes.none (KeyState k.at) (omega arith) (k, first, refl))
 
 -- each jump of two bytes reaches its target
 pub none_too_far : (elf : Elf) → Passes elf past_no_reach → HasNone IsOutOfReach (sites elf)

@@ -1,5 +1,5 @@
 -- The forms that sites want reach their targets.
-use Rattle.std.proofs.Common.{◌≡◌, ◌∙◌, ◌==◌, ◌<◌, ◌≤◌, ◌⊎◌, inl, inr, ℕ, ◌+◌, ◌^◌, Bool, true, false, cond, not, nat_lt, List, ◌∷◌, length, Option, Some, None, option_map, slice_get, slice_index, slice_index_or, refl, sym, ap, subst, arith}
+use Rattle.std.proofs.Common.{◌≡◌, ◌∙◌, ◌==◌, ◌<◌, ◌≤◌, ◌⊎◌, inl, inr, ℕ, ◌+◌, ◌^◌, Bool, true, false, cond, not, nat_lt, List, ◌∷◌, length, Option, Some, None, option_map, slice_get, slice_index_or, refl, sym, ap, subst, arith}
 use Rattle.std.specs.Int.{w32}
 use Rattle.std.specs.Option.{unwrap_or}
 use Rattle.elf_module.specs.Elf.{Elf}
@@ -156,7 +156,7 @@ module_leads_to elf m states i s Trace is lead get kind = tracer_leads elf m i s
 
 -- the form that a site wants reaches its target, and has the site's length
 pub forms_reach : WantedFormsReach
-forms_reach m states i s form accepted lead get own want =
+forms_reach m states i s form accepted lead get want =
     let elf = accepted.elf in
     let is = accepted.is in
     let there : slice_get (sites elf) i ≡ Some s = site_of_file elf m i s is get in

@@ -1,5 +1,5 @@
 -- The units of a text, noted from its first byte on, one after the other.
-use Rattle.std.proofs.Common.{length-drop, ◌≡◌, ◌≢◌, ◌<◌, ◌≤◌, ◌+◌, ◌-◌, ◌∙◌, ◌&&◌, ◌⊎◌, if◌then◌else◌, nat_le, ℕ, zero, suc, Bool, true, false, List, length, set, drop, Option, Some, None, Ok, Err, refl, ap, sym, subst, arith, inl, inr}
+use Rattle.std.proofs.Common.{length-drop, ◌≡◌, ◌≢◌, ◌<◌, ◌≤◌, ◌+◌, ◌-◌, ◌∙◌, ◌&&◌, ◌⊎◌, if◌then◌else◌, nat_le, ℕ, Bool, true, false, List, length, set, drop, Option, Some, None, Ok, Err, refl, ap, sym, subst, arith, inl, inr}
 use Rattle.std.specs.List.{slice_get, slice_range, list_all}
 use Rattle.std.proofs.lemmas.Bool.{leb-true, le-leb, cases_eq, cases_lt}
 use Rattle.std.proofs.lemmas.Grind.{common_steps}

@@ -1,5 +1,5 @@
 -- The text of a module has 1 to 65,536 bytes.
-use Rattle.std.proofs.Common.{◌≡◌, ◌<◌, ◌≤◌, ◌∙◌, inl, inr, ℕ, List, length, Option, Some, None, refl, sym, ap, subst, arith}
+use Rattle.std.proofs.Common.{◌≡◌, ◌≤◌, ◌∙◌, inl, inr, ℕ, List, length, Option, Some, None, refl, sym, ap, subst, arith}
 use Rattle.std.proofs.lemmas.Bool.{cases_lt}
 use Rattle.elf_module.specs.Elf.{Elf, SectionRecord}
 use Rattle.module_image.specs.declared.refused.Refused.TheVariants.{TextCount, TextSize}

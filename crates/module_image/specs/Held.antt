@@ -13,11 +13,11 @@ use Rattle.module_image.specs.Flows.{LeadWell}
 abbrev pub first_states : Module → States
 first_states m = record { keys = starts_of m.keys; traced = replicate (length m.sites) false }
 
--- the form that a site wants has a spelling, of as many bytes as the site has
+-- the form that a site wants has a spelling, of as many bytes as the site has, also where the site is foreign
 abbrev pub WantedFormsReach : Type 0
 WantedFormsReach =
     (m : Module) (states : States) (i : ℕ) (s : Site) (form : Form) → IsAccepted m → LeadWell m states
-    → slice_get m.sites i ≡ Some s → s.foreign ≡ false → wants m states i ≡ Some form
+    → slice_get m.sites i ≡ Some s → wants m states i ≡ Some form
     → (code : List ℕ) × (spell form s.at ≡ Some code) × (length code ≡ s.len)
 
 -- a site that isn't foreign holds what it wants with the keys as the file has them

@@ -1,6 +1,6 @@
 -- What an accepted module promises to whoever is lent it: what the numbers, addresses and instructions that it hands
 -- out stand for.
-use Rattle.std.specs.Prelude.{◌≡◌, ◌<◌, ◌≤◌, ℕ, ◌+◌, ⊤, true, false, List, length, slice_get, Some}
+use Rattle.std.specs.Prelude.{◌≡◌, ◌<◌, ◌≤◌, ℕ, ◌+◌, ◌^◌, ⊤, true, false, List, length, slice_get, Some, IsSome}
 use Rattle.x64_subset.specs.declared.insn.Insn.{Insn}
 use Rattle.x64_subset.specs.Subset.{is_listed}
 use Rattle.module_image.specs.declared.key.Key.{Key}
@@ -10,8 +10,9 @@ use Rattle.module_image.specs.declared.site.Site.{Site}
 use Rattle.module_image.specs.declared.site.SiteKind.{SiteKind}
 use Rattle.module_image.specs.declared.site.SiteKind.TheVariants.{Jump, Call, Tail, Trace}
 use Rattle.module_image.specs.Layout.{IsStart}
-use Rattle.module_image.specs.Module.{Module, layout_of}
+use Rattle.module_image.specs.Module.{Module, IsAccepted, layout_of, trace_site_of, tracer_of}
 use Rattle.module_image.specs.Names.{Named, value_of}
+use Rattle.module_image.specs.Text.{AreApart, AreInside}
 
 -- a number is that of a key of a class
 pub record IsKeyOf (keys : List Key) (class : KeyClass) (number : ℕ) : Type 0 where
@@ -62,3 +63,34 @@ pub record IsPlaceOf (m : Module) (at : ℕ) : Type 0 where
   pub start : IsStart (layout_of m) at
   pub from : m.base ≤ at
   pub to : at < m.base + length m.text
+
+-- where the sites of a module lie, that their keys are known, and that there are few of both
+pub record IsLaidOut (m : Module) : Type 0 where
+  pub inside : AreInside m.base (length m.text) m.sites
+  pub apart : AreApart m.sites
+  pub few : length m.sites ≤ 1024
+  pub known : KeysAreKnown m.sites m.keys
+  pub few_keys : length m.keys ≤ 1024
+  pub below : m.base + length m.text < 2 ^ 64
+
+abbrev pub SitesAreLaidOut : Type 0
+SitesAreLaidOut = (m : Module) → IsAccepted m → IsLaidOut m
+
+-- what the names of a module's keys stand for
+abbrev pub KeyNamesAreKnown : Type 0
+KeyNamesAreKnown = (m : Module) → IsAccepted m → NamesAreKnown m.keys JumpKey m.jump_keys × NamesAreKnown m.keys CallKey m.call_keys
+
+-- what is found for a function is a trace site
+abbrev pub TraceSitesAreFound : Type 0
+TraceSitesAreFound =
+    (m : Module) (function n : ℕ) → IsAccepted m → trace_site_of m function ≡ Some n → IsTraceSite m.sites n
+
+-- a static key's count in the file isn't negative
+abbrev pub CountsFit : Type 0
+CountsFit =
+    (m : Module) (k : ℕ) (key : Key) → IsAccepted m → slice_get m.keys k ≡ Some key → key.class ≡ JumpKey
+    → key.start < 2 ^ 31
+
+-- where there is a trace site there is a tracer
+abbrev pub TraceSitesHaveATracer : Type 0
+TraceSitesHaveATracer = (m : Module) (i : ℕ) → IsAccepted m → IsTraceSite m.sites i → IsSome (tracer_of m)

@@ -2,6 +2,7 @@
 ghost use Rattle.module_image.specs.Command.{CommandsLeadWell};
 ghost use Rattle.module_image.specs.Flows.{FunctionsAreStarts, PatchedSitesFlow, PlainInstructionsFlow, SitesAreStarts, StartsHaveUnits};
 ghost use Rattle.module_image.specs.Held.{FirstStatesLeadWell, ForeignSitesAreTheFiles, ForeignSitesHoldNoForm, LengthIsTheFiles, OtherBytesAreTheFiles, SitesHoldWhatTheyWant, WantedFormsReach};
+ghost use Rattle.module_image.specs.Lent.{CountsFit, KeyNamesAreKnown, SitesAreLaidOut, TraceSitesAreFound, TraceSitesHaveATracer};
 
 /// A plain instruction leads a processor from a start to a start: where it jumps, where it goes on, and where it
 /// returns to later.
@@ -25,7 +26,7 @@ pub fn sites_are_starts()
     ensures { SitesAreStarts }
 {}
 
-/// The form that a site wants which isn't foreign reaches its target, and has the site's length.
+/// The form that a site wants reaches its target, and has the site's length, also where the site is foreign.
 pub fn wanted_forms_reach()
     ensures { WantedFormsReach }
 {}
@@ -64,4 +65,30 @@ pub fn other_bytes_are_the_files()
 /// A foreign site holds what the file has there.
 pub fn foreign_sites_are_the_files()
     ensures { ForeignSitesAreTheFiles }
+{}
+
+/// The sites, at most 1,024, ascend, share no byte and lie in the text, of which no address wraps; the key of each is
+/// one of the keys, at most 1,024, of the class that the site asks for.
+pub fn sites_are_laid_out()
+    ensures { SitesAreLaidOut }
+{}
+
+/// What a key's name stands for is the number of a key of its class.
+pub fn names_are_known()
+    ensures { KeyNamesAreKnown }
+{}
+
+/// What is found for a function is the number of a trace site.
+pub fn trace_sites_are_found()
+    ensures { TraceSitesAreFound }
+{}
+
+/// The count that a static key has in the file is below 2^31.
+pub fn counts_fit()
+    ensures { CountsFit }
+{}
+
+/// Where there is a trace site there is a tracer, which is a start, as each function is.
+pub fn traced_sites_have_one()
+    ensures { TraceSitesHaveATracer }
 {}

@@ -1,4 +1,3 @@
-use Rattle.elf_module.specs.Elf.{SectionRecord}
 use Rattle.std.specs.Prelude.{slice_get}
 use Rattle.module_image.proofs.Counted.{text_told}
 use Rattle.module_image.proofs.text_section.is_text.Goals as goal
