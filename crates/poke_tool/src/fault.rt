@@ -12,28 +12,36 @@ use elf_module::ElfRefused;
 use module_image::Refused;
 use poke_base::{Line, NoMemory, WriteFail, put_hex, put_text};
 use site_tables::TableKind;
+use thiserror::Error;
 
 /// Which file of a command is refused, and why.
-#[derive(Clone, Copy, Debug, PartialEq, Eq)]
+#[derive(Clone, Copy, Debug, PartialEq, Eq, Error)]
 pub enum Refusal {
     /// The module file.
+    #[error("module: {0}")]
     Module(ModuleRefused),
     /// The plan file.
+    #[error("plan: {0}")]
     Plan(PlanRefused),
 }
 
 /// Why a command failed.
-#[derive(Clone, Copy, Debug, PartialEq, Eq)]
+#[derive(Clone, Copy, Debug, PartialEq, Eq, Error)]
 pub enum Fault {
     /// The words are no command.
+    #[error("bad words")]
     Words,
     /// A file was refused.
+    #[error(transparent)]
     Refused(Refusal),
     /// A file wasn't read.
+    #[error("read failed")]
     Read,
     /// A write failed.
+    #[error("write failed")]
     Write,
     /// There was no memory.
+    #[error("no memory")]
     Memory,
 }
 

@@ -7,6 +7,7 @@ ghost use Rattle.poke_tool.specs.PlanLine.{PokeLine, IsPlan, IsOldForm, change_o
 use arrayvec::ArrayVec;
 use insn_forms::{Change, Form, Held, decode_form};
 use poke_base::{next_word, read_hex};
+use thiserror::Error;
 
 /// The greatest address that a plan may name.
 const HIGHEST_ADDRESS: u64 = 0xffff_ffff_ffff_ff00;
@@ -15,15 +16,19 @@ const HIGHEST_ADDRESS: u64 = 0xffff_ffff_ffff_ff00;
 pub type OldBytes = ArrayVec<u8, 128>;
 
 /// Why a plan file was refused. The first of these that holds is the answer.
-#[derive(Clone, Copy, Debug, PartialEq, Eq)]
+#[derive(Clone, Copy, Debug, PartialEq, Eq, Error)]
 pub enum PlanRefused {
     /// The file has more than 256 bytes.
+    #[error("more than 256 bytes")]
     TooLong,
     /// The file isn't one line of the grammar.
+    #[error("the file isn't one line of an address, bytes and a form")]
     Line,
     /// The new form doesn't reach its target.
+    #[error("the new form doesn't reach its target")]
     NoReach,
     /// The old bytes are no form of the new form's size.
+    #[error("the old bytes are no form of the new form's size")]
     Old,
 }
 
