@@ -124,15 +124,13 @@ fn plain_jumps_lead_to_instructions(rt: HostRuntime) -> Result<(), Fail> {
 }
 
 #[test]
-fn sites_and_keys_lead_to_instructions(rt: HostRuntime) -> Result<(), Fail> {
+fn sites_and_functions_lead_to_instructions(rt: HostRuntime) -> Result<(), Fail> {
     let off = KeyStart::Count(0);
     let load: &[u8] = b"\xb8\x01\0\0\0\xc3";
-    let load_after: &[u8] = b"f\x90\xb8\x01\0\0\0\xc3";
-    let call_and_load: &[u8] = b"\xe8\0\0\0\0\xb8\x01\0\0\0\xc3";
-    let rows: [One<'_>; 6] = [
+    let sites: [One<'_>; 2] = [
         (
             "a switch",
-            load_after,
+            b"f\x90\xb8\x01\0\0\0\xc3",
             jump(F, F + 3, 0),
             off,
             b"BadTarget 401000 401003",
@@ -144,49 +142,41 @@ fn sites_and_keys_lead_to_instructions(rt: HostRuntime) -> Result<(), Fail> {
             off,
             b"BadTarget 401000 401001",
         ),
-        (
-            "a key, into a load",
-            call_and_load,
-            call(F, 0),
-            KeyStart::Func(F + 6),
-            b"BadTarget 451000 401006",
-        ),
-        (
-            "a key, to the end",
-            call_and_load,
-            call(F, 0),
-            KeyStart::Func(F + 11),
-            b"BadTarget 451000 40100b",
-        ),
-        (
-            "a key, before the text",
-            call_and_load,
-            call(F, 0),
-            KeyStart::Func(F - 1),
-            b"BadTarget 451000 400fff",
-        ),
-        // A call doesn't reach it.
-        (
-            "a key, far away",
-            call_and_load,
-            call(F, 0),
-            KeyStart::Func(0x7fff_0000_0000),
-            b"BadTarget 451000 7fff00000000",
-        ),
     ];
-    refuses_sites(&rt, &rows)?;
+    refuses_sites(&rt, &sites)?;
     let function = Small {
         text: load,
         functions: &[(b"f", F + 1)],
         ..RETURN
     };
-    refuses(
-        &rt,
-        "a function",
-        &function,
-        &[],
-        b"BadTarget 401001 401001",
-    )
+    let why = b"BadTarget 401001 401001";
+    refuses(&rt, "a function", &function, &[], why)
+}
+
+#[test]
+fn keys_lead_to_instructions(rt: HostRuntime) -> Result<(), Fail> {
+    let rows: [(&str, u64, &[u8]); 4] = [
+        ("into a load", F + 6, b"BadTarget 451000 401006"),
+        ("to the end", F + 11, b"BadTarget 451000 40100b"),
+        ("before the text", F - 1, b"BadTarget 451000 400fff"),
+        // A call doesn't reach it.
+        (
+            "far away",
+            0x7fff_0000_0000,
+            b"BadTarget 451000 7fff00000000",
+        ),
+    ];
+    for (name, function, why) in rows {
+        // A call, which is the key's site, a load and a return.
+        let small = Small {
+            text: b"\xe8\0\0\0\0\xb8\x01\0\0\0\xc3",
+            sites: &[call(F, 0)],
+            keys: &[(b"k", KeyStart::Func(function))],
+            functions: &[],
+        };
+        refuses(&rt, name, &small, &[], why)?;
+    }
+    Ok(())
 }
 
 #[test]
