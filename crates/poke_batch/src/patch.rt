@@ -74,7 +74,7 @@ fn patch_of<T: Held>(change: Change, text: &T) -> Result<Patch, Clash>
     Ok(Patch { change, code })
 }
 
-/// A look whether the site of a change holds the bytes of its old form.
+/// Looks whether the site of a change holds the bytes of its old form.
 ///
 /// # Errors
 /// The site holds other bytes.
