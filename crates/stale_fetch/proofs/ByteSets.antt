@@ -5,7 +5,7 @@ use Rattle.std.proofs.lemmas.Bool.{eqb-true, or_cases}
 use Rattle.std.proofs.lemmas.Map.Steps.{length-le_from_distinct_below}
 use Rattle.stale_fetch.specs.Gathered.{has, added}
 use Rattle.stale_fetch.specs.ByteSet.{IsByteSet}
-use Rattle.stale_fetch.proofs.Since.{added-distinct, has-added, has-flips}
+use Rattle.stale_fetch.specs.Since.{added-distinct, has-added, has-flips}
 
 -- what is in a list with a value more is the value or was there
 below_more : (xs : List ℕ) (byte : ℕ) → byte < 256 → ((value : ℕ) → has xs value ≡ true → value < 256) → (value : ℕ) → has (byte ∷ xs) value ≡ true → value < 256

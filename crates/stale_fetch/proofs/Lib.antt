@@ -1,3 +1,4 @@
-pub mod Since
 pub mod ByteSets
 pub mod LogFields
+pub mod Rows
+pub mod WindowPasts

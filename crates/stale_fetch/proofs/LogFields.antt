@@ -11,7 +11,7 @@ use Rattle.insn_forms.specs.History.{Memory, text_memory, written, byte, since}
 use Rattle.stale_fetch.specs.declared.log.ByteWrite.{ByteWrite}
 use Rattle.stale_fetch.specs.Gathered.{byte_after, gathered, bytes_at, has}
 use Rattle.stale_fetch.specs.LogInside.{write_of}
-use Rattle.stale_fetch.proofs.Since.{written-is, byte_after-append, since-is, has-contained, contained-has}
+use Rattle.stale_fetch.specs.Since.{written-is, byte_after-append, since-is, has-contained, contained-has}
 
 -- a byte of a text by its place
 pub memory_at : (base : ℕ) (text : List ℕ) (k : ℕ) → text_memory base text (base + k) ≡ slice_index text k
@@ -78,7 +78,7 @@ values_of base mark at read first start writes before later values le from r b l
         ∙ sym (written-is (take mark (map write_of writes)) (text_memory base start) at)
 
 -- a list of zeros
-zeros : (n k : ℕ) → slice_index (replicate n 0) k ≤ 0
+pub zeros : (n k : ℕ) → slice_index (replicate n 0) k ≤ 0
 zeros zero k = omega arith
 zeros (suc n) zero = omega arith
 zeros (suc n) (suc k) = zeros n k

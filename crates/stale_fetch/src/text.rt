@@ -1,5 +1,5 @@
 //! A text that processors fetch from.
-ghost use Rattle.std.specs.Prelude.{◌≡◌, ◌<◌, ◌↔◌, ℕ, IsTrue, Some, length, slice_get};
+ghost use Rattle.std.specs.Prelude.{◌≡◌, ◌≤◌, ◌<◌, ◌↔◌, ℕ, IsTrue, Some, length, slice_get};
 ghost use Rattle.std.specs.List.{Contains};
 ghost use Rattle.stale_fetch.specs.Past.{Past, candidates, with_write, with_serialised};
 ghost use Rattle.stale_fetch.specs.Text.{Shape, Covers, HasRoom, Agrees};
@@ -44,7 +44,9 @@ pub trait Text: Held {
     fn count(&self, cpu: u8, at: u64) -> u16
         requires known { cpu < (shape self.now).cpus }
         requires inside { Covers (shape self.now) at }
-        ensures { (p : Past) → stands self.now p → result ≡ length (candidates p cpu at) };
+        ensures some { 1 ≤ result }
+        ensures most { result ≤ 256 }
+        ensures counted { (p : Past) → stands self.now p → result ≡ length (candidates p cpu at) };
 
     /// The candidate of this number, from 0 on, of a processor at an address inside of the text.
     fn candidate(&self, cpu: u8, at: u64, n: u16) -> u8

@@ -32,7 +32,8 @@ pub(crate) fn add_value(values: &mut Values, byte: u8)
 /// How many values there are: at most 256.
 pub(crate) fn count_values(values: &Values) -> u16
     requires { IsByteSet values.now.items }
-    ensures { result ≡ length values.now.items }
+    ensures counted { result ≡ length values.now.items }
+    ensures most { result ≤ 256 }
 {
     values.len() as u16
 }

@@ -1,4 +1,4 @@
-use Rattle.stale_fetch.proofs.Since.{candidates_are_values}
+use Rattle.stale_fetch.specs.Since.{candidates_are_values}
 use Rattle.stale_fetch.proofs.laws.candidates_are_values.Goals as goal
 
 pub returns : goal.returns

@@ -1,4 +1,4 @@
-use Rattle.stale_fetch.proofs.Since.{each_once}
+use Rattle.stale_fetch.specs.Since.{each_once}
 use Rattle.stale_fetch.proofs.laws.each_once.Goals as goal
 
 pub returns : goal.returns

@@ -291,3 +291,11 @@ since_candidate start writes mark at value h =
 pub candidates_are_values : CandidatesAreValues
 candidates_are_values start writes mark at value le =
     (candidate_in start writes mark at value, since_candidate start writes mark at value)
+
+-- there is always one
+has-some : (xs : List ℕ) (v : ℕ) → has xs v ≡ true → 1 ≤ length xs
+has-some [] v here = absurd (cc)
+has-some (x ∷ xs) v here = omega arith
+
+pub since-some : (start : Memory) (writes : List Write) (mark at : ℕ) → mark ≤ length writes → 1 ≤ length (since start writes mark at)
+since-some start writes mark at le = has-some _ _ (has-now start writes mark at le)
