@@ -1,5 +1,5 @@
 -- What a text that keeps two values of each byte stands for, when it is made, written and serialised.
-use Rattle.std.proofs.Common.{◌≡◌, ◌≢◌, ◌≤◌, ◌<◌, ◌+◌, ◌-◌, ◌==◌, ◌||◌, ◌⊎◌, if◌then◌else◌, ℕ, zero, suc, Bool, true, false, List, [], ◌∷◌, ◌++◌, Option, Some, None, length, map, set, replicate, get_or, refl, sym, ap, subst, ◌∙◌, inl, inr, arith, length-append, length-set}
+use Rattle.std.proofs.Common.{◌≡◌, ◌≢◌, ◌<◌, ◌+◌, ◌-◌, ◌==◌, ◌||◌, ◌⊎◌, if◌then◌else◌, ℕ, Bool, true, false, List, [], ◌∷◌, ◌++◌, Option, Some, None, length, map, set, replicate, get_or, refl, sym, ap, subst, ◌∙◌, inl, inr, arith, length-append, length-set}
 use Rattle.std.specs.Prelude.{slice_index, slice_index_or}
 use Rattle.std.specs.List.{All}
 use Rattle.std.proofs.lemmas.Bool.{eq-eqb, ne_eqb, eqb-true, cases_eq}
@@ -8,12 +8,12 @@ use Rattle.std.proofs.lemmas.List.Elements.{All-get_or, All-map, All-weaker}
 use Rattle.insn_forms.specs.Write.{Write}
 use Rattle.insn_forms.specs.History.{text_memory, since}
 use Rattle.stale_fetch.specs.Choice.{listed, takes, chosen, widened}
-use Rattle.stale_fetch.specs.Gathered.{has, added}
+use Rattle.stale_fetch.specs.Gathered.{added}
 use Rattle.stale_fetch.specs.Past.{Past, candidates, with_write, new_past}
 use Rattle.stale_fetch.specs.Since.{since-last}
 use Rattle.stale_fetch.specs.Text.{Covers}
 use Rattle.stale_fetch.specs.WindowLaws.{now_written, candidates_written, choices_at, all_at}
-use Rattle.stale_fetch.specs.Windows.{Row, WindowState, choice_at, window_at, widened_at, window_shape, windows_take, now, IsWindowsOf}
+use Rattle.stale_fetch.specs.Windows.{Row, WindowState, window_at, widened_at, window_shape, windows_take, now, IsWindowsOf}
 use Rattle.stale_fetch.proofs.LogFields.{memory_at, was_read, zeros}
 
 -- a new text stands for a past without writes

@@ -1,5 +1,5 @@
 -- What the fields of a text that keeps two values of each byte stand for.
-use Rattle.std.specs.Prelude.{◌≡◌, ◌==◌, ◌+◌, ◌≤◌, ◌<◌, ◌^◌, if◌then◌else◌, ℕ, List, Option, Some, None, length, map, All}
+use Rattle.std.specs.Prelude.{◌==◌, ◌≤◌, if◌then◌else◌, ℕ, Option, Some, None, map, All}
 use Rattle.stale_fetch.specs.declared.row.Window.{Window}
 use Rattle.stale_fetch.specs.declared.row.Windows.TheInside.{Inside}
 use Rattle.stale_fetch.specs.Windows.{Row}

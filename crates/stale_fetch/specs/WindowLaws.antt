@@ -1,11 +1,11 @@
 -- A text that keeps two values of each byte agrees with what it stands for.
-use Rattle.std.proofs.Common.{◌≡◌, ◌≢◌, ◌≤◌, ◌<◌, ◌+◌, ◌-◌, ◌==◌, ◌||◌, ◌&&◌, ◌↔◌, if◌then◌else◌, ℕ, zero, suc, Bool, true, false, List, [], ◌∷◌, ◌++◌, Option, Some, None, length, refl, sym, ap, subst, ◌∙◌, inl, inr, arith, length-append}
+use Rattle.std.proofs.Common.{◌≡◌, ◌≤◌, ◌<◌, ◌+◌, ◌-◌, ◌==◌, ◌||◌, ◌↔◌, if◌then◌else◌, ℕ, zero, suc, Bool, true, false, List, [], ◌∷◌, ◌++◌, Some, None, length, refl, sym, ap, subst, ◌∙◌, inl, inr, arith, length-append}
 use Rattle.std.specs.Prelude.{nat_lt, slice_get, slice_index, slice_index_or}
 use Rattle.std.specs.List.{list_all}
 use Rattle.std.proofs.lemmas.Bool.{eq-eqb, lt-ltb, le-ltb, cases_lt, and_parts, and_from}
 use Rattle.std.proofs.lemmas.Option.{slice_get-get_or, slice_get_past}
 use Rattle.insn_forms.specs.Write.{Write}
-use Rattle.insn_forms.specs.History.{text_memory, byte, since}
+use Rattle.insn_forms.specs.History.{text_memory, byte}
 use Rattle.stale_fetch.specs.declared.choice.Choice.{Choice}
 use Rattle.stale_fetch.specs.declared.choice.Choice.TheVariants.{One, Two}
 use Rattle.stale_fetch.specs.Choice.{listed, takes, chosen}

@@ -1,5 +1,5 @@
 use Rattle.std.proofs.Common.{◌≡◌, ◌++◌, map, take, drop}
-use Rattle.stale_fetch.specs.Windows.{Row, widened_at}
+use Rattle.stale_fetch.specs.Windows.{widened_at}
 use Rattle.stale_fetch.proofs.window.widen_all.Given as goal
 
 abbrev pub invariant-loop-row : goal.invariant-loop-row

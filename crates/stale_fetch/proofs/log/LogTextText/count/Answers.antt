@@ -1,6 +1,5 @@
-use Rattle.std.proofs.Common.{◌≤◌, ℕ, length, arith, ap}
+use Rattle.std.proofs.Common.{length, arith, ap}
 use Rattle.insn_forms.specs.History.{text_memory}
-use Rattle.stale_fetch.specs.Past.{candidates}
 use Rattle.std.specs.Prelude.{slice_index}
 use Rattle.stale_fetch.specs.Since.{since-some}
 use Rattle.stale_fetch.proofs.log.LogTextText.count.Goals as goal

@@ -1,7 +1,7 @@
-use Rattle.std.proofs.Common.{◌≡◌, ◌-◌, ◌∙◌, List, ap, map, length-set, arith}
+use Rattle.std.proofs.Common.{◌≡◌, ◌-◌, ◌∙◌, ap, map, length-set, arith}
 use Rattle.std.proofs.lemmas.List.{with_items_is}
 use Rattle.std.specs.Vec.{with_items}
-use Rattle.stale_fetch.specs.Windows.{Row, widened_at}
+use Rattle.stale_fetch.specs.Windows.{widened_at}
 use Rattle.stale_fetch.proofs.WindowPasts.{windows_written, write_whole}
 use Rattle.stale_fetch.proofs.window.WindowTextText.write.Goals as goal
 
