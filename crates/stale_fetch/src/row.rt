@@ -20,7 +20,7 @@ struct Window {
 ///
 /// A window is open if it was opened in the processor's present epoch, which ends when the processor
 /// serialises. So all windows are closed at once, however long the text is. Only where the numbers of
-/// epochs have run out is each window closed by itself, which is once in 2^64 times.
+/// epochs have run out is each window closed by itself, which is once in 2^64 - 1 times.
 #[derive(Drop)]
 pub(crate) struct Windows {
     epoch: u64,

@@ -17,8 +17,8 @@ use std::marker::Model;
 /// A text that keeps the byte that it holds, and at most one value from before for each processor.
 ///
 /// It takes all its memory when it is made, and takes any number of writes, but none that would give a
-/// processor a third candidate. A write costs as much as there are processors, each other call the same
-/// for every text.
+/// processor a third candidate. `fits` and `write` take as long as there are processors, and no call
+/// takes longer for a longer text, but for one in 2^64 - 1 serialisations of a processor.
 #[derive(Drop)]
 pub struct WindowText {
     base: u64,
