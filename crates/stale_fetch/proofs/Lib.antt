@@ -1,0 +1,4 @@
+pub mod ByteSets
+pub mod LogFields
+pub mod Rows
+pub mod WindowPasts

@@ -1,0 +1,14 @@
+pub mod Past
+pub mod Text
+pub mod Gathered
+pub mod Laws
+pub mod Since
+pub mod Log
+pub mod LogInside
+pub mod ByteSet
+pub mod LogLaws
+pub mod Choice
+pub mod Windows
+pub mod WindowInside
+pub mod WindowFields
+pub mod WindowLaws
