@@ -1,0 +1,6 @@
+mod FirstLines
+mod NoText
+pub mod Faults
+pub mod Kept
+mod Reading
+mod OfModules
