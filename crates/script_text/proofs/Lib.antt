@@ -1,3 +1,4 @@
+mod Examples
 mod FirstLines
 mod NoText
 pub mod Faults
