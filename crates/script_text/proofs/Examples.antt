@@ -1,5 +1,5 @@
 -- Scripts line by line, for a module with one function, one static key, one static call's key and one trace site.
-use Rattle.std.specs.Prelude.{◌≡◌, ℕ, true, false, List, [], ◌∷◌, ◌++◌, Option, None, Some, Result, Ok, Err, codes, replicate, refl}
+use Rattle.std.specs.Prelude.{◌≡◌, ℕ, true, false, List, [], ◌∷◌, ◌++◌, None, Some, Result, Ok, Err, codes, replicate, refl}
 use Rattle.module_image.specs.declared.command.Command.TheVariants as command
 use Rattle.module_image.specs.declared.site.SiteKind.TheVariants.{Trace as TraceSite}
 use Rattle.module_image.specs.Module.{Module}
@@ -100,15 +100,15 @@ cpu = codes "cpu f"
 -- a script with every command
 says-all :
     says (
-        codes "# a comment" ∷ [] ∷ cpu ∷ codes " cpu  f " ∷ codes "inc k" ∷ codes "dec k" ∷ codes "enable k" ∷ codes "disable k" ∷ codes "call ck f" ∷ codes "call ck -"
-        ∷ codes "trace f" ∷ codes "untrace f" ∷ codes "trace *" ∷ codes "untrace *" ∷ codes "run 1000000" ∷ codes "drop 255" ∷ []
+    codes "# a comment" ∷ [] ∷ cpu ∷ codes " cpu  f " ∷ codes "inc k" ∷ codes "dec k" ∷ codes "enable k" ∷ codes "disable k" ∷ codes "call ck f" ∷ codes "call ck -"
+    ∷ codes "trace f" ∷ codes "untrace f" ∷ codes "trace *" ∷ codes "untrace *" ∷ codes "run 1000000" ∷ codes "drop 255" ∷ []
     )
     ≡ Ok (record {
-        entries = 0x401000 ∷ 0x401000 ∷ [];
-        steps =
-            step.Update (command.Inc 0) ∷ step.Update (command.Dec 0) ∷ step.Update (command.Enable 0) ∷ step.Update (command.Disable 0)
-            ∷ step.Update (command.Target 1 0x401000) ∷ step.Update (command.Target 1 0) ∷ step.Update (command.Trace 0 true) ∷ step.Update (command.Trace 0 false)
-            ∷ step.Update (command.TraceAll true) ∷ step.Update (command.TraceAll false) ∷ step.Run 1000000 ∷ step.Drop 255 ∷ [];
+      entries = 0x401000 ∷ 0x401000 ∷ [];
+      steps =
+          step.Update (command.Inc 0) ∷ step.Update (command.Dec 0) ∷ step.Update (command.Enable 0) ∷ step.Update (command.Disable 0)
+          ∷ step.Update (command.Target 1 0x401000) ∷ step.Update (command.Target 1 0) ∷ step.Update (command.Trace 0 true) ∷ step.Update (command.Trace 0 false)
+          ∷ step.Update (command.TraceAll true) ∷ step.Update (command.TraceAll false) ∷ step.Run 1000000 ∷ step.Drop 255 ∷ [];
     })
 unfolding script
 says-all = refl

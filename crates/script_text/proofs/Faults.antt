@@ -1,5 +1,5 @@
 -- From the first condition that holds of a line to the parts of the code that try them.
-use Rattle.std.proofs.Common.{◌≡◌, ◌∙◌, ℕ, Bool, true, false, not, List, [], ◌∷◌, length, Option, Some, None, Ok, Err, refl, ap}
+use Rattle.std.proofs.Common.{◌≡◌, ◌∙◌, Bool, true, false, not, [], ◌∷◌, length, Option, Some, None, Ok, Err, refl}
 use Rattle.std.specs.Prelude.{◌&&◌, if◌then◌else◌, nat_le, find, option_map}
 use Rattle.std.specs.Option.{option_or}
 use Rattle.std.proofs.lemmas.List.Folds.{find-append}

@@ -1,10 +1,9 @@
 -- What a line leaves of what holds of the script before it.
-use Rattle.std.proofs.Common.{◌≡◌, ◌∙◌, ◌≤◌, ◌<◌, ◌+◌, ℕ, Bool, true, false, List, [], ◌∷◌, ◌++◌, length, Option, Some, None, Ok, Err, Result, not, nat_le, nat_lt, refl, sym, ap, subst, arith, length-append}
-use Rattle.std.specs.Prelude.{if◌then◌else◌, option_map}
+use Rattle.std.proofs.Common.{◌≡◌, ◌≤◌, ◌+◌, ℕ, Bool, true, false, [], ◌∷◌, length, Option, Some, None, not, nat_le, nat_lt, refl, arith, length-append}
+use Rattle.std.specs.Prelude.{if◌then◌else◌}
 use Rattle.std.proofs.lemmas.Bool.{leb-false, ltb-false}
 use Rattle.module_image.specs.declared.command.Command.{Command}
 use Rattle.module_image.specs.Module.{Module}
-use Rattle.script_text.specs.declared.refused.ScriptWhy.{ScriptWhy}
 use Rattle.script_text.specs.declared.refused.ScriptWhy.TheVariants.{LateCpu, Cpus, Updates, Drops, Turns}
 use Rattle.script_text.specs.Draft.{IsWithin, limit_fault, place_fault}
 use Rattle.script_text.specs.Grammar.{Line, Cpu, Inc, Dec, Enable, Disable, Call, Trace, Run, Drop, is_cpu}

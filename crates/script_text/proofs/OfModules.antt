@@ -1,5 +1,5 @@
 -- Every script that is read is of its module.
-use Rattle.std.proofs.Common.{◌≡◌, ◌∙◌, ◌≤◌, ◌⊎◌, inl, inr, ℕ, ◌+◌, Bool, true, false, List, [], ◌∷◌, ◌++◌, length, nat_le, Option, Some, None, Ok, Err, Result, refl, sym, ap, subst, arith, lit≤}
+use Rattle.std.proofs.Common.{◌≡◌, ◌∙◌, ◌≤◌, ◌⊎◌, inl, inr, ℕ, ◌+◌, Bool, true, false, List, [], ◌∷◌, length, nat_le, Option, Some, None, Ok, Err, Result, refl, sym, ap, subst, arith, lit≤}
 use Rattle.std.specs.Prelude.{◌&&◌, if◌then◌else◌, codes, option_map}
 use Rattle.std.specs.List.{All}
 use Rattle.std.specs.Str.{bytes_eq}
@@ -13,10 +13,9 @@ use Rattle.module_image.specs.declared.command.Command.TheVariants as command
 use Rattle.module_image.specs.declared.key.KeyClass.TheVariants.{Jump as JumpKey, Call as CallKey}
 use Rattle.module_image.specs.Command.{IsCommandOf, IsFunction}
 use Rattle.module_image.specs.Lent.{IsKeyOf, IsTraceSite, KeyNamesAreKnown, NamesAreKnown, TraceSitesAreFound}
-use Rattle.module_image.specs.Module.{IsAccepted, Module}
+use Rattle.module_image.specs.Module.{Module}
 use Rattle.script_text.specs.declared.refused.ScriptWhy.{ScriptWhy}
 use Rattle.script_text.specs.declared.refused.ScriptWhy.TheVariants.{NoCpu}
-use Rattle.script_text.specs.declared.script.ScriptStep.{ScriptStep}
 use Rattle.script_text.specs.declared.script.ScriptStep.TheVariants as step
 use Rattle.script_text.specs.Draft.{IsWithin, limit_fault, place_fault}
 use Rattle.script_text.specs.Grammar.{Line, Cpu, Inc, Dec, Enable, Disable, Call, Trace, Run, Drop, is_cpu, line_of}

@@ -1,5 +1,5 @@
 -- What is kept of a script while its lines are read.
-use Rattle.std.specs.Prelude.{◌≡◌, ◌≤◌, ⊤, ℕ, Bool, not, nat_le, nat_lt, if◌then◌else◌, length, Option, Some, None, option_map}
+use Rattle.std.specs.Prelude.{◌≡◌, ◌≤◌, ⊤, Bool, not, nat_le, nat_lt, if◌then◌else◌, length, Option, Some, None, option_map}
 use Rattle.script_text.specs.declared.meaning.Meaning.{Meaning as Meant}
 use Rattle.script_text.specs.declared.refused.ScriptWhy.{ScriptWhy}
 use Rattle.script_text.specs.declared.refused.ScriptWhy.TheVariants.{NoCpu, LateCpu, Cpus, Updates, Drops, Turns}

@@ -1,5 +1,4 @@
 -- What is kept of a script.
-use Rattle.std.specs.Prelude.{ℕ}
 use Rattle.script_text.specs.declared.script.Script.TheInside.{Inside}
 use Rattle.script_text.specs.Laws.{IsWithinLimits}
 use Rattle.script_text.specs.Script.{ScriptValue}

@@ -1,5 +1,5 @@
 -- What an accepted script has.
-use Rattle.std.specs.Prelude.{◌≡◌, ◌≤◌, ⊤, ℕ, List, length, Ok}
+use Rattle.std.specs.Prelude.{◌≡◌, ◌≤◌, ℕ, List, length, Ok}
 use Rattle.std.specs.List.{All}
 use Rattle.module_image.specs.Command.{IsCommandOf, IsFunction}
 use Rattle.module_image.specs.Module.{Module, IsAccepted}

@@ -8,23 +8,23 @@ use poke_base::next_word;
 /// A line of a script, with the words after its first.
 #[derive(Clone, Copy)]
 pub enum ScriptLine<'a> {
-    /// One more processor, which starts at a function.
+    /// `cpu F`: one more processor, which starts at a function.
     Cpu(&'a [u8]),
-    /// Adds one to a static key's count.
+    /// `inc K`: adds one to a static key's count.
     Inc(&'a [u8]),
-    /// Takes one from a static key's count.
+    /// `dec K`: takes one from a static key's count.
     Dec(&'a [u8]),
-    /// Enables a static key.
+    /// `enable K`: enables a static key.
     Enable(&'a [u8]),
-    /// Disables a static key.
+    /// `disable K`: disables a static key.
     Disable(&'a [u8]),
-    /// Gives a static call's key a function.
+    /// `call K F`: gives a static call's key a function, or none.
     Call(&'a [u8], &'a [u8]),
-    /// Turns the tracing of a function on or off.
+    /// `trace F` and `untrace F`: turns the tracing of a function, or of all trace sites, on or off.
     Trace(bool, &'a [u8]),
-    /// Turns of the processors.
+    /// `run N`: turns of the processors.
     Run(&'a [u8]),
-    /// Drops the tracer at a place.
+    /// `drop T`: drops the tracer at a place.
     Drop(&'a [u8]),
 }
 

@@ -17,11 +17,11 @@ pub enum ScriptStep {
     Update(Command),
     /// Turns of the processors, 1 to 1,000,000.
     Run(u32),
-    /// Drops the tracer at a place.
+    /// Drops the tracer at a place, 0 to 255.
     Drop(u8),
 }
 
-/// What a script says: where its processors start, 1 to 16, and its steps.
+/// What a script says: where its processors start, and its steps.
 #[derive(Drop)]
 pub struct Script {
     entries: Vec<u64>,
@@ -47,10 +47,11 @@ impl Script {
     ghost use Rattle.script_text.specs.Script.{all_drops, all_turns, all_updates, most_cpus, most_drops, most_updates, script};
     ghost use Rattle.script_text.specs.Refused.{IsRefused};
 
-    /// Reads a script for a module, in one pass over the text.
+    /// Reads a script for a module, in one pass over the text, with at most two names looked up for a line.
     ///
     /// # Errors
-    /// `Refused` with the first refused line and why; `NoMemory` may come at any line.
+    /// `Refused` with the number of the first refused line, counted from 1, and the first reason that holds of it, in
+    /// the order that `ScriptWhy` tells; `NoMemory` may come at any line.
     pub fn read(alloc: Global, text: &[u8], image: &Image) -> Result<Script, ScriptError>
         requires { length text.now < 2 ^ 32 - 1 }
         ensures script { IfOk result (λ s. script image.now text.now ≡ Ok s) }
@@ -70,7 +71,7 @@ impl Script {
         draft.finish(number)
     }
 
-    /// Where the processors start, each at a function of the module, in order.
+    /// Where the processors start, 1 to 16, each at the address of a function of the module, in order.
     pub fn entries(&self) -> &[u64]
         ensures entries { result.now ≡ self.now.entries }
         ensures some { 1 ≤ length result.now }
@@ -79,7 +80,7 @@ impl Script {
         &self.entries
     }
 
-    /// What is done, in order.
+    /// What is done, in order: at most 64 updates, 64 drops, and 1,000,000 turns together. Commands are of the module.
     pub fn steps(&self) -> &[ScriptStep]
         ensures steps { result.now ≡ self.now.steps }
         ensures few_updates { all_updates result.now ≤ most_updates }

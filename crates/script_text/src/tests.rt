@@ -1,4 +1,4 @@
-//! Scripts for a module with two functions of each kind and two keys: what no contract says, with values from outside.
+//! Scripts for a small module: what no contract says, with values from outside.
 
 use crate::{Script, ScriptError, ScriptStep, ScriptWhy};
 use elf_build::{KeyStart, Name, Plan, PlanFunction, PlanKey, PlanSite, write};
@@ -75,7 +75,13 @@ fn module(alloc: Global) -> Result<Vec<u8>, Fail> {
 }
 
 /// Some lines, then one line several times, then a last one.
-fn long(alloc: Global, first: &[u8], line: &[u8], times: u32, last: &[u8]) -> Result<Vec<u8>, Fail> {
+fn long(
+    alloc: Global,
+    first: &[u8],
+    line: &[u8],
+    times: u32,
+    last: &[u8],
+) -> Result<Vec<u8>, Fail> {
     let mut text = Vec::from_slice(alloc, first)?;
     for _ in 0..times {
         text.extend_from_slice(line)?;
@@ -90,7 +96,8 @@ fn a_script_is_read(rt: HostRuntime) -> Result<(), Fail> {
     assert!(rt; bytes.len() < 10_000);
     let image = Image::accept(rt.alloc(), &ElfFile::read(&bytes)?)?;
 
-    let text = b"# a comment\n\n \t\r\ncpu f\r\n\tcpu  g\ncpu *\ncpu -\ninc k\ndec k\n  # enable g\nenable k\ndisable k\n\
+    let text =
+        b"# a comment\n\n \t\r\ncpu f\r\n\tcpu  g\ncpu *\ncpu -\ninc k\ndec k\n  # enable g\nenable k\ndisable k\n\
         call ck g\ncall ck -\ncall ck *\ntrace f\nuntrace f\ntrace *\nuntrace *\nrun 01\nrun 1000\ndrop 0\ndrop 255";
     let script = Script::read(rt.alloc(), text, &image)?;
     let entries = [F, F + 9, F + 22, F + 21];
@@ -195,5 +202,16 @@ fn limits_are_kept(rt: HostRuntime) -> Result<(), Fail> {
         });
         assert_eq!(rt; refused, expected);
     }
+    Ok(())
+}
+
+#[test]
+fn errors_are_worded(rt: HostRuntime) -> Result<(), Fail> {
+    let refused = ScriptError::Refused {
+        line: 3,
+        why: ScriptWhy::LateCpu,
+    };
+    let text = format!(in rt.alloc(); "{refused}, {}", ScriptError::NoMemory)?;
+    assert_eq!(rt; text.as_str(), "line 3: LateCpu, out of memory");
     Ok(())
 }
