@@ -1,0 +1,7 @@
+mod Examples
+mod FirstLines
+mod NoText
+pub mod Faults
+pub mod Kept
+mod Reading
+mod OfModules

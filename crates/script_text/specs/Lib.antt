@@ -1,0 +1,9 @@
+pub mod Lines
+pub mod Grammar
+pub mod Meaning
+pub mod Script
+pub mod Laws
+pub mod Inside
+pub mod Shape
+pub mod Draft
+pub mod Refused
