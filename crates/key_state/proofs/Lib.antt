@@ -1,0 +1,5 @@
+pub mod Counting
+pub mod Keeping
+pub mod First
+pub mod Differing
+pub mod Pieces
