@@ -3,3 +3,8 @@ pub mod Keeping
 pub mod First
 pub mod Differing
 pub mod Pieces
+pub mod Poking
+pub mod Clashing
+pub mod Rewriting
+pub mod Settling
+pub mod Going

@@ -4,6 +4,7 @@ use Rattle.std.specs.Prelude.{IsSome, unwrap_or}
 use Rattle.std.specs.Option.{is_some}
 use Rattle.std.proofs.lemmas.Bool.{le-ltb}
 use Rattle.std.proofs.lemmas.Option.{none-some, same_Some, slice_get-get_or}
+use Rattle.std.proofs.lemmas.Grind.{common_steps}
 use Rattle.insn_forms.specs.History.{text_byte}
 use Rattle.module_image.specs.Sites.{code_at, put_at}
 use Rattle.module_image.proofs.Spliced.{beside_put}
@@ -67,3 +68,7 @@ byte_kept text code o k inside (inl before) =
     sym (peeked (put_at text o code) k) ∙ ap (λ (bs : List ℕ). slice_get bs 0) (beside_put text code o k 1 inside (inl (omega (arith, before)))) ∙ peeked text k
 byte_kept text code o k inside (inr after) =
     sym (peeked (put_at text o code) k) ∙ ap (λ (bs : List ℕ). slice_get bs 0) (beside_put text code o k 1 inside (inr after)) ∙ peeked text k
+
+-- a text with bytes put into it is as long
+pub length_put : (text code : List ℕ) (o : ℕ) → o + length code ≤ length text → length (put_at text o code) ≡ length text
+length_put text code o inside = grind (arith, common_steps)

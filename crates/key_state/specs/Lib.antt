@@ -3,4 +3,5 @@ pub mod Effects
 pub mod Changes
 pub mod Outcome
 pub mod Settled
+pub mod Writing
 pub mod Laws

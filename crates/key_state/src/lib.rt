@@ -5,9 +5,12 @@
 mod count;
 mod effect;
 mod keys;
+pub mod laws;
 mod outcome;
+mod settled;
+mod writing;
 
 pub use count::CountRefused;
-use effect::Effect;
 pub use keys::Keys;
 pub use outcome::Outcome;
+pub use settled::Settled;
