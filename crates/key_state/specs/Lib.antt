@@ -1,0 +1,7 @@
+pub mod After
+pub mod Effects
+pub mod Changes
+pub mod Outcome
+pub mod Settled
+pub mod Writing
+pub mod Laws
