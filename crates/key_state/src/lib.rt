@@ -6,11 +6,13 @@ mod count;
 mod effect;
 mod keys;
 pub mod laws;
+mod lines;
 mod outcome;
 mod settled;
 mod writing;
 
 pub use count::CountRefused;
 pub use keys::Keys;
+pub use lines::outcome_line;
 pub use outcome::Outcome;
 pub use settled::Settled;

@@ -5,3 +5,4 @@ pub mod Faults
 pub mod Kept
 mod Reading
 mod OfModules
+pub mod SameNames

@@ -2,6 +2,7 @@ pub mod Lines
 pub mod Grammar
 pub mod Meaning
 pub mod Script
+pub mod Commands
 pub mod Laws
 pub mod Inside
 pub mod Shape

@@ -1,0 +1,4 @@
+pub mod CpuNumbers
+pub mod Told
+pub mod Begun
+pub mod SoFar

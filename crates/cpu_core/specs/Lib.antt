@@ -1,0 +1,5 @@
+pub mod Fetch
+pub mod Turn
+pub mod CpuInside
+pub mod Standing
+pub mod Lines
