@@ -1,0 +1,9 @@
+pub mod State
+pub mod Beginning
+pub mod May
+pub mod Next
+pub mod Said
+pub mod Journal
+pub mod Switching
+pub mod Table
+pub mod Laws
