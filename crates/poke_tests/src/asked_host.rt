@@ -2,7 +2,8 @@
 ghost use Rattle.std.specs.Prelude.{◌≡◌};
 
 use crate::frame::words;
-use poke_base::{AskedBy, Host, MemoryHost, ReadFail, WriteFail};
+use crate::modules::{TWO_SWITCHES, file};
+use poke_base::{AskedBy, Host, MemoryHost, NoMemory, ReadFail, WriteFail};
 use poke_tool::textpoke;
 use std::alloc::Global;
 use std::test::Fail;
@@ -28,6 +29,11 @@ impl AskedHost {
     /// The names that were asked for, each with the call that it was handed to.
     fn asked(&self) -> &[(String, AskedBy)] {
         &self.asked
+    }
+
+    /// Gives the host a file.
+    fn put(&mut self, name: &str, bytes: &[u8]) -> Result<(), NoMemory> {
+        self.host.put(name, bytes)
     }
 
     /// Keeps a name, where there is memory for it.
@@ -70,11 +76,13 @@ impl Host for AskedHost {
 
 #[test]
 fn the_one_name_is_asked(rt: HostRuntime) -> Result<(), Fail> {
-    let rows: [(&[&str], &[u8], AskedBy); 4] = [
+    let rows: [(&[&str], &[u8], AskedBy); 5] = [
         (&["plan", "p"], b"p", AskedBy::Read),
         (&["show", "m"], b"m", AskedBy::Read),
         (&["check", "m"], b"m", AskedBy::Read),
         (&["make", "10", "m"], b"m", AskedBy::Make),
+        // It isn't there, so the script isn't asked for.
+        (&["wants", "m", "s"], b"m", AskedBy::Read),
     ];
     let alloc = rt.alloc();
     for (list, name, by) in rows {
@@ -85,5 +93,35 @@ fn the_one_name_is_asked(rt: HostRuntime) -> Result<(), Fail> {
         assert_eq!(rt; asked[0].0.as_bytes(), name);
         assert_eq!(rt; asked[0].1, by);
     }
+    Ok(())
+}
+
+/// The host after `wants` on a module and a script that isn't there.
+fn after_wants(alloc: Global, module: &[u8]) -> Result<AskedHost, Fail> {
+    let mut host = AskedHost::new(alloc);
+    host.put("m", module)?;
+    let _ = textpoke(alloc, &words(alloc, &["wants", "m", "s"])?, &mut host);
+    Ok(host)
+}
+
+#[test]
+fn the_script_is_asked_after_its_module(rt: HostRuntime) -> Result<(), Fail> {
+    let alloc = rt.alloc();
+    let host = after_wants(alloc, &file(alloc, &TWO_SWITCHES)?)?;
+    let asked = host.asked();
+    assert_eq!(rt; asked.len(), 2);
+    assert_eq!(rt; asked[0].0.as_bytes(), b"m".as_slice());
+    assert_eq!(rt; asked[0].1, AskedBy::Read);
+    assert_eq!(rt; asked[1].0.as_bytes(), b"s".as_slice());
+    assert_eq!(rt; asked[1].1, AskedBy::Read);
+    Ok(())
+}
+
+#[test]
+fn the_script_of_a_bad_module_is_not_asked(rt: HostRuntime) -> Result<(), Fail> {
+    let host = after_wants(rt.alloc(), b"no module")?;
+    let asked = host.asked();
+    assert_eq!(rt; asked.len(), 1);
+    assert_eq!(rt; asked[0].0.as_bytes(), b"m".as_slice());
     Ok(())
 }

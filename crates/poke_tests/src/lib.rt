@@ -31,4 +31,6 @@ mod sites;
 #[cfg(test)]
 mod texts;
 #[cfg(test)]
+mod wants;
+#[cfg(test)]
 mod written;

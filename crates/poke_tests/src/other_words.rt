@@ -7,7 +7,7 @@ use std::test::Fail;
 
 #[test]
 fn other_words_are_refused(rt: HostRuntime) -> Result<(), Fail> {
-    let rows: [(&str, &[&str]); 16] = [
+    let rows: [(&str, &[&str]); 18] = [
         ("no words", &[]),
         ("no plan", &["plan"]),
         ("two plans", &["plan", "p", "q"]),
@@ -24,6 +24,8 @@ fn other_words_are_refused(rt: HostRuntime) -> Result<(), Fail> {
         ("too many blocks", &["make", "1001", "m"]),
         ("no digit", &["make", "x", "m"]),
         ("a sign", &["make", "-10", "m"]),
+        ("no script", &["wants", "m"]),
+        ("two scripts", &["wants", "m", "p", "p"]),
     ];
     let module = file(rt.alloc(), &TWO_SWITCHES)?;
     let files: [(&str, &[u8]); 2] = [("p", NOP_TO_JMP), ("m", &module)];

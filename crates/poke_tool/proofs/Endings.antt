@@ -8,7 +8,7 @@ use Rattle.poke_base.proofs.Outsides.{Tells-no_more, Tells-same, Tells-trans}
 use Rattle.poke_tool.specs.declared.fault.Fault.{Fault}
 use Rattle.poke_tool.specs.declared.fault.Fault.TheVariants.{Words, Refused, Read, Write, Memory}
 use Rattle.poke_tool.specs.declared.fault.Refusal.{Refusal}
-use Rattle.poke_tool.specs.declared.fault.Refusal.TheVariants.{Module, Plan}
+use Rattle.poke_tool.specs.declared.fault.Refusal.TheVariants.{Module, Plan, Script}
 use Rattle.poke_tool.specs.Command as command
 use Rattle.poke_tool.specs.Command.{Row, file_words}
 use Rattle.poke_tool.specs.Fault.{status_of, complaint_of, refusal_status}
@@ -175,10 +175,12 @@ ended row old new status runs =
 refusal_low : (why : Refusal) → 2 ≤ refusal_status why
 refusal_low (Module why) = lit≤ tt
 refusal_low (Plan why) = lit≤ tt
+refusal_low (Script why) = lit≤ tt
 
 refusal_high : (why : Refusal) → refusal_status why ≤ 4
 refusal_high (Module why) = lit≤ tt
 refusal_high (Plan why) = lit≤ tt
+refusal_high (Script why) = lit≤ tt
 
 -- what a command did, by the status
 at_0 : (row : Row) (names : ℕ) (old new : Outside) (result : Result (Unit {0}) Fault) → answer_status result ≡ 0 → DoesNamed row names old new result → Concludes row names old new None

@@ -19,7 +19,7 @@ take_suc {X = X} (y ∷ ys) zero x there =
     ap (λ (z : X). z ∷ []) same
 take_suc {X = X} (y ∷ ys) (suc i) x there = ap (λ (zs : List X). y ∷ zs) (take_suc ys i x there)
 
-take_more : {X : Type 0} (xs : List X) (i : ℕ) (x : X) → slice_get xs i ≡ Some x → take (i + 1) xs ≡ take i xs ++ (x ∷ [])
+pub take_more : {X : Type 0} (xs : List X) (i : ℕ) (x : X) → slice_get xs i ≡ Some x → take (i + 1) xs ≡ take i xs ++ (x ∷ [])
 take_more {X = X} xs i x there =
     let next : i + 1 ≡ suc i = omega arith in
     ap (λ (n : ℕ). take n xs) next ∙ take_suc xs i x there

@@ -1,8 +1,11 @@
 pub mod Asking
 pub mod Ways
+pub mod TwoFiles
 pub mod Sayings
 pub mod Endings
 pub mod PlanLines
 pub mod Plans
 pub mod TableLines
 pub mod ItemLines
+pub mod OutcomeLines
+pub mod ScriptUpdates

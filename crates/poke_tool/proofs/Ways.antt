@@ -10,12 +10,14 @@ use Rattle.poke_base.proofs.Outsides.{Rose-later, Tells-no_more, Tells-same, Tel
 use Rattle.poke_tool.specs.declared.fault.Fault.{Fault}
 use Rattle.poke_tool.specs.declared.fault.Fault.TheVariants.{Words, Refused, Read, Write, Memory}
 use Rattle.poke_tool.specs.declared.fault.Refusal.{Refusal}
-use Rattle.poke_tool.specs.declared.fault.Refusal.TheVariants.{Module as ModuleRefusal, Plan as PlanRefusal}
+use Rattle.poke_tool.specs.declared.fault.Refusal.TheVariants.{Module as ModuleRefusal, Script as ScriptRefusal}
 use Rattle.module_image.specs.Module.{Module}
 use Rattle.poke_tool.specs.Check.{RefusesAsModule}
 use Rattle.poke_tool.specs.Command.{Row, file_words}
 use Rattle.poke_tool.specs.Runs.{AsksFirst, Asks, Does, IsRead, MakesPrefix, ReadsInput, ReadsNone}
-use Rattle.poke_tool.specs.Saying.{Holds, ModuleSays, Saying, Says, says_file, says_text, refuses, told_before}
+use Rattle.poke_tool.specs.Script.{RefusesAsScript}
+use Rattle.script_text.specs.Script.{ScriptValue}
+use Rattle.poke_tool.specs.Saying.{Holds, ModuleSays, Saying, ScriptSays, Says, says_file, says_text, refuses, told_before}
 use Rattle.poke_tool.proofs.Asking.{Asks-appends, Asks-makes, Asks-more, Asks-prints, Asks-same, HasRead, MakesNothing-trans, added_later, has_read-more, has_read-none, held_before, made_later, made_with, still_told}
 use Rattle.poke_tool.proofs.Sayings.{asks_first}
 
@@ -239,4 +241,9 @@ one_prints row name old middle new Is Refuses value text result only reads print
 -- what is refused as a module is said to be
 pub module_refused : (P : Module → Saying → Type 0) (bytes : List ℕ) (why : Refusal) → RefusesAsModule bytes why → ModuleSays P bytes (refuses 1 why)
 module_refused P bytes (ModuleRefusal why) refused = inl (why, refused, refl)
-module_refused P bytes (PlanRefusal why) refused = absurd refused
+module_refused P bytes why refused = absurd refused
+
+-- what is refused as a script of an accepted module is said to be
+pub script_refused : (P : Module → ScriptValue → Saying → Type 0) (m : Module) (bytes : List ℕ) (why : Refusal) → RefusesAsScript m bytes why → ScriptSays P m bytes (refuses 2 why)
+script_refused P m bytes (ScriptRefusal why) refused = inl (why, refused, refl)
+script_refused P m bytes why refused = absurd refused

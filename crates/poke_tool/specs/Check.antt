@@ -12,7 +12,7 @@ use Rattle.module_image.specs.Refusals.{IsRefusal as IsImageRefusal}
 use Rattle.poke_tool.specs.declared.fault.Fault.{Fault}
 use Rattle.poke_tool.specs.declared.fault.Fault.TheVariants.{Refused as RefusedFault, Memory}
 use Rattle.poke_tool.specs.declared.fault.Refusal.{Refusal}
-use Rattle.poke_tool.specs.declared.fault.Refusal.TheVariants.{Module as ModuleRefusal, Plan as PlanRefusal}
+use Rattle.poke_tool.specs.declared.fault.Refusal.TheVariants.{Module as ModuleRefusal}
 use Rattle.poke_tool.specs.declared.module_fault.ModuleRefused.{ModuleRefused}
 use Rattle.poke_tool.specs.declared.module_fault.ModuleRefused.TheVariants.{TooLong, Elf as NoElf, Image}
 use Rattle.poke_tool.specs.Module.{module_limit}
@@ -55,7 +55,7 @@ pub record Accepts (file : List ℕ) (m : Module) : Type 0 where
 -- why a file isn't accepted, as the refusal of a command
 abbrev pub RefusesAsModule : List ℕ → Refusal → Type 0
 RefusesAsModule file (ModuleRefusal why) = RefusesModule file why
-RefusesAsModule file (PlanRefusal why) = ⊥
+RefusesAsModule file _ = ⊥
 
 -- why bytes aren't accepted: they are refused, or there was no memory
 abbrev pub RefusesFile : List ℕ → Fault → Type 0

@@ -6,7 +6,7 @@ use Rattle.poke_base.specs.declared.host.AskedBy.{AskedBy}
 use Rattle.poke_base.specs.declared.host.AskedBy.TheVariants.{Read, Make as MakeFile}
 use Rattle.poke_base.specs.Number.{dec_number}
 use Rattle.poke_tool.specs.declared.command.Command.{Command}
-use Rattle.poke_tool.specs.declared.command.Command.TheVariants.{Plan as WithPlan, Show as WithShow, Check as WithCheck, Make as WithMake}
+use Rattle.poke_tool.specs.declared.command.Command.TheVariants.{Plan as WithPlan, Show as WithShow, Check as WithCheck, Make as WithMake, Wants as WithWants}
 
 -- a command with the names of its files
 pub data Row : Type 0 where
@@ -14,6 +14,7 @@ pub data Row : Type 0 where
   Show : List ℕ → Row
   Check : List ℕ → Row
   Make : ℕ → List ℕ → Row
+  Wants : List ℕ → List ℕ → Row
 
 -- the command that the program read
 abbrev pub row : Command → Row
@@ -21,6 +22,7 @@ row (WithPlan file) = Plan file.now
 row (WithShow module_file) = Show module_file.now
 row (WithCheck module_file) = Check module_file.now
 row (WithMake blocks module_file) = Make blocks module_file.now
+row (WithWants module_file script_file) = Wants module_file.now script_file.now
 
 -- the words after the program's name
 abbrev pub words_of : List (String Global) → List (List ℕ)
@@ -31,6 +33,13 @@ abbrev pub one_file : List (List ℕ) → Option (List ℕ)
 one_file [] = None
 one_file (file ∷ []) = Some file
 one_file (file ∷ more ∷ rest) = None
+
+-- the only two words after a command's name, its files
+abbrev pub two_files : List (List ℕ) → Option (List ℕ × List ℕ)
+two_files [] = None
+two_files (file ∷ []) = None
+two_files (file ∷ second ∷ []) = Some (file, second)
+two_files (file ∷ second ∷ more ∷ rest) = None
 
 -- a number of blocks, 10 to 1,000
 abbrev pub in_range : Option ℕ → Option ℕ
@@ -55,6 +64,7 @@ row_of (name ∷ rest) =
     else if bytes_eq name (codes "show") then option_map (λ file. Show file) (one_file rest)
     else if bytes_eq name (codes "check") then option_map (λ file. Check file) (one_file rest)
     else if bytes_eq name (codes "make") then make_row rest
+    else if bytes_eq name (codes "wants") then option_map (λ files. Wants files.0 files.1) (two_files rest)
     else None
 
 -- the file words of a command from left to right, each with the call that it is handed to
@@ -63,6 +73,7 @@ file_words (Plan file) = (file, Read) ∷ []
 file_words (Show module_file) = (module_file, Read) ∷ []
 file_words (Check module_file) = (module_file, Read) ∷ []
 file_words (Make n module_file) = (module_file, MakeFile) ∷ []
+file_words (Wants module_file script_file) = (module_file, Read) ∷ (script_file, Read) ∷ []
 
 -- the numbers of a command are in their ranges
 abbrev pub IsInRange : Command → Type 0
@@ -70,3 +81,4 @@ IsInRange (WithPlan file) = ⊤
 IsInRange (WithShow module_file) = ⊤
 IsInRange (WithCheck module_file) = ⊤
 IsInRange (WithMake blocks module_file) = (10 ≤ blocks) × (blocks ≤ 1000)
+IsInRange (WithWants module_file script_file) = ⊤

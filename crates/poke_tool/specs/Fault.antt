@@ -1,12 +1,16 @@
 -- How a command that failed ends: its status and its complaint.
 use Rattle.std.specs.Prelude.{ℕ, List, [], ◌∷◌, ◌++◌, codes}
-use Rattle.poke_base.specs.Number.{hexadecimal}
+use Rattle.poke_base.specs.Number.{decimal, hexadecimal}
 use Rattle.elf_module.specs.declared.refused.ElfRefused.{ElfRefused}
 use Rattle.elf_module.specs.declared.refused.ElfRefused.TheVariants.{Short, Magic, Class, Data, Version, Machine, Kind, Relocatable, Headers, Section, Names, Symbols}
 use Rattle.site_tables.specs.declared.entries.TableKind.{TableKind}
 use Rattle.site_tables.specs.declared.entries.TableKind.TheVariants.{Jump, Call, Trace}
 use Rattle.poke_tool.specs.declared.plan_line.PlanRefused.{PlanRefused}
 use Rattle.poke_tool.specs.declared.plan_line.PlanRefused.TheVariants.{TooLong, Line, NoReach, Old}
+use Rattle.script_text.specs.declared.refused.ScriptWhy.{ScriptWhy}
+use Rattle.script_text.specs.declared.refused.ScriptWhy.TheVariants.{Word, NoCpu, LateCpu, Cpus, Number, Name, Updates, Drops, Turns}
+use Rattle.poke_tool.specs.declared.script_fault.ScriptRefused.{ScriptRefused}
+use Rattle.poke_tool.specs.declared.script_fault.ScriptRefused.TheVariants.{TooLong as LongScript, Line as RefusedLine}
 use Rattle.poke_tool.specs.declared.module_fault.ModuleRefused.{ModuleRefused}
 use Rattle.poke_tool.specs.declared.module_fault.ModuleRefused.TheVariants.{TooLong as LongModule, Elf, Image}
 use Rattle.module_image.specs.declared.refused.Refused.{Refused}
@@ -14,12 +18,13 @@ use Rattle.module_image.specs.declared.refused.Refused.TheVariants.{TextCount, T
 use Rattle.poke_tool.specs.declared.fault.Fault.{Fault}
 use Rattle.poke_tool.specs.declared.fault.Fault.TheVariants.{Words, Refused as RefusedFault, Read, Write, Memory}
 use Rattle.poke_tool.specs.declared.fault.Refusal.{Refusal}
-use Rattle.poke_tool.specs.declared.fault.Refusal.TheVariants.{Module, Plan}
+use Rattle.poke_tool.specs.declared.fault.Refusal.TheVariants.{Module, Plan, Script}
 
 -- the status of a refused file, by its kind
 abbrev pub refusal_status : Refusal → ℕ
 refusal_status (Module why) = 2
 refusal_status (Plan why) = 3
+refusal_status (Script why) = 3
 
 abbrev pub status_of : Fault → ℕ
 status_of Words = 1
@@ -110,10 +115,27 @@ name_of Line = codes "Line"
 name_of NoReach = codes "NoReach"
 name_of Old = codes "Old"
 
+-- what is wrong with a script: the name of why a line is refused, after the line's number
+abbrev pub script_name : ScriptWhy → List ℕ
+script_name Word = codes "Word"
+script_name NoCpu = codes "NoCpu"
+script_name LateCpu = codes "LateCpu"
+script_name Cpus = codes "Cpus"
+script_name Number = codes "Number"
+script_name Name = codes "Name"
+script_name Updates = codes "Updates"
+script_name Drops = codes "Drops"
+script_name Turns = codes "Turns"
+
+abbrev pub script_reason : ScriptRefused → List ℕ
+script_reason LongScript = codes "TooLong"
+script_reason (RefusedLine line why) = codes "line " ++ decimal line ++ codes ": " ++ script_name why
+
 -- which file is refused, and why
 abbrev pub refusal_reason : Refusal → List ℕ
 refusal_reason (Module why) = codes "module: " ++ module_reason why
 refusal_reason (Plan why) = codes "plan: " ++ name_of why
+refusal_reason (Script why) = codes "script: " ++ script_reason why
 
 abbrev pub reason_of : Fault → List ℕ
 reason_of Words = codes "bad words"

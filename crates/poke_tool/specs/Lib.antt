@@ -2,6 +2,8 @@ pub mod PlanLine
 pub mod Plan
 pub mod Module
 pub mod Check
+pub mod Script
+pub mod Wants
 pub mod Command
 pub mod Fault
 pub mod Saying

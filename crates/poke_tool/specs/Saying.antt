@@ -8,9 +8,11 @@ use Rattle.elf_build.specs.File.{file_of}
 use Rattle.elf_build.specs.Generated.{IsGenerated}
 use Rattle.module_image.specs.Module.{Module}
 use Rattle.poke_tool.specs.declared.fault.Refusal.{Refusal}
-use Rattle.poke_tool.specs.declared.fault.Refusal.TheVariants.{Module as ModuleRefusal, Plan as PlanRefusal}
+use Rattle.poke_tool.specs.declared.fault.Refusal.TheVariants.{Module as ModuleRefusal, Plan as PlanRefusal, Script as ScriptRefusal}
 use Rattle.poke_tool.specs.declared.module_fault.ModuleRefused.{ModuleRefused}
 use Rattle.poke_tool.specs.declared.plan_line.PlanRefused.{PlanRefused}
+use Rattle.script_text.specs.Script.{ScriptValue}
+use Rattle.poke_tool.specs.declared.script_fault.ScriptRefused.{ScriptRefused}
 use Rattle.poke_tool.specs.Check.{Accepts, RefusesModule, accepted_text}
 use Rattle.poke_tool.specs.Command as command
 use Rattle.poke_tool.specs.Command.{Row}
@@ -18,6 +20,8 @@ use Rattle.poke_tool.specs.Fault.{refusal_status}
 use Rattle.poke_tool.specs.Module.{ModuleShows}
 use Rattle.poke_tool.specs.Plan.{poke_text}
 use Rattle.poke_tool.specs.PlanLine.{PokeLine}
+use Rattle.poke_tool.specs.Script.{AcceptsScript, RefusesScript}
+use Rattle.poke_tool.specs.Wants.{IsWantsText}
 
 -- what a command's files say: what is printed, the file that is made with what it then holds, why the command is
 -- refused after that, if it is, and how many of its file words it asks for
@@ -69,6 +73,12 @@ ModuleSays P bytes s =
     ((why : ModuleRefused) × RefusesModule bytes why × (s ≡ refuses 1 (ModuleRefusal why)))
     ⊎ ((m : Module) × Accepts bytes m × P m s)
 
+-- bytes say this as a script of a module, the second file of a command: why they aren't accepted as one, or what that script says
+abbrev pub ScriptSays : (Module → ScriptValue → Saying → Type 0) → Module → List ℕ → Saying → Type 0
+ScriptSays P m bytes s =
+    ((why : ScriptRefused) × RefusesScript m bytes why × (s ≡ refuses 2 (ScriptRefusal why)))
+    ⊎ ((script : ScriptValue) × AcceptsScript m bytes script × P m script s)
+
 -- what a plan file says: the poke of its change, or why it is refused
 abbrev pub plan_saying : Result Change PlanRefused → Saying
 plan_saying (Ok change) = says_text 1 (poke_text change)
@@ -99,9 +109,15 @@ pub record IsModuleOf (n : ℕ) (bytes : List ℕ) : Type 0 where
 abbrev pub MakeSays : ℕ → List ℕ → Saying → Type 0
 MakeSays n name s = (bytes : List ℕ) × IsModuleOf n bytes × (s ≡ says_file 1 name bytes)
 
+-- what is printed of a script of an accepted module: how its updates end, and what the sites then hold
+abbrev pub WantsSays : Module → ScriptValue → Saying → Type 0
+WantsSays m script s = (printed : List ℕ) × IsWantsText m script printed × (s ≡ says_text 2 printed)
+
 -- what the files of a command say
 abbrev pub Says : Row → Option Files → Saying → Type 0
 Says (command.Plan file) told s = FileSays PlanSays told file s
 Says (command.Show module_file) told s = FileSays ShowSays told module_file s
 Says (command.Check module_file) told s = FileSays (ModuleSays CheckSays) told module_file s
 Says (command.Make n file) told s = MakeSays n file s
+Says (command.Wants module_file script_file) told s =
+    FileSays (ModuleSays (λ m t. FileSays (ScriptSays WantsSays m) told script_file t)) told module_file s

@@ -1,15 +1,14 @@
 //! The command `check`: whether a module is accepted, and what it then is.
-ghost use Rattle.std.specs.Prelude.{◌≡◌, ◌≤◌, length};
-ghost use Rattle.module_image.specs.Sites.{code_at};
-ghost use Rattle.module_image.specs.Text.{IsInside};
+ghost use Rattle.std.specs.Prelude.{◌≡◌};
 ghost use Rattle.poke_base.specs.Host.{Prints};
-ghost use Rattle.poke_tool.specs.Check.{accepted_text, site_lines, text_line};
+ghost use Rattle.poke_tool.specs.Check.{accepted_text, text_line};
 ghost use Rattle.poke_tool.specs.Command.{Check as CheckRow};
 ghost use Rattle.poke_tool.specs.Runs.{Does};
 
 use crate::fault::Fault;
 use crate::module_file::read_module;
-use module_image::{Image, Site, site_line};
+use crate::site_lines::print_sites;
+use module_image::Image;
 use poke_base::{Host, Line, WriteFail, put_dec, put_hex, put_text};
 use std::alloc::Global;
 
@@ -31,31 +30,10 @@ pub fn check<H: Host>(alloc: Global, name: &str, host: &mut H) -> Result<(), Fau
 fn print_image<H: Host>(image: &Image, host: &mut H) -> Result<(), WriteFail>
     ensures { Prints (H.outside host.old) (H.outside host.new) (accepted_text image.now.base image.now.text image.now.sites) result }
 {
-    host.print(&text_line(image.base(), image.text()))?;
-    print_sites(image, host)?;
-    host.print(b"accepted\n")
-}
-
-/// Prints a line for each site of a module, ascending.
-fn print_sites<H: Host>(image: &Image, host: &mut H) -> Result<(), WriteFail>
-    ensures { Prints (H.outside host.old) (H.outside host.new) (site_lines image.now.base image.now.text image.now.sites) result }
-{
-    let base = image.base();
     let text = image.text();
-    for site in image.sites() {
-        host.print(&site_line(site, code_of(base, text, site)))?;
-    }
-    Ok(())
-}
-
-/// The bytes that a site of a text holds.
-fn code_of<'a>(base: u64, text: &'a [u8], site: &Site) -> &'a [u8]
-    requires { IsInside base (length text.now) site.now }
-    ensures code { result.now ≡ code_at base text.now site.now.at site.now.len }
-    ensures short { length result.now ≤ 5 }
-{
-    let from = (site.at - base) as usize;
-    &text[from..from + usize::from(site.len)]
+    host.print(&text_line(image.base(), text))?;
+    print_sites(image, text, host)?;
+    host.print(b"accepted\n")
 }
 
 /// `text BASE SIZE`, the size in bytes, in decimal.

@@ -1,6 +1,6 @@
 //! The commands, as the words after the program's name give them.
 ghost use Rattle.std.specs.Prelude.{◌≡◌, IfSome, option_map};
-ghost use Rattle.poke_tool.specs.Command.{block_count, one_file, words_of};
+ghost use Rattle.poke_tool.specs.Command.{block_count, one_file, two_files, words_of};
 
 use poke_base::read_dec;
 
@@ -15,10 +15,12 @@ pub enum Command<'a> {
     Check { module: &'a str },
     /// Writes a module with n blocks, 10 to 1,000.
     Make { blocks: u32, module: &'a str },
+    /// Prints how the updates of a script end, and what the sites of its module then hold.
+    Wants { module: &'a str, script: &'a str },
 }
 
 impl<'a> Command<'a> {
-    ghost use Rattle.poke_tool.specs.Command.{IsInRange, make_row, row, row_of, words_of};
+    ghost use Rattle.poke_tool.specs.Command.{IsInRange, Wants, make_row, row, row_of, two_files, words_of};
 
     /// The command that the words are. `None` exactly for all other words.
     pub fn read(words: &'a [String]) -> Option<Command<'a>>
@@ -37,6 +39,7 @@ impl<'a> Command<'a> {
                 module: one_file(rest)?,
             }),
             "make" => Command::make(rest),
+            "wants" => Command::wants(rest),
             _ => None,
         }
     }
@@ -56,6 +59,25 @@ impl<'a> Command<'a> {
             }
             _ => None,
         }
+    }
+
+    /// `wants MODULE SCRIPT`
+    fn wants(rest: &'a [String]) -> Option<Command<'a>>
+        ensures row { option_map row result ≡ option_map (λ files. Wants files.0 files.1) (two_files (words_of rest.now)) }
+        ensures in_range { IfSome result IsInRange }
+    {
+        let (module, script) = two_files(rest)?;
+        Some(Command::Wants { module, script })
+    }
+}
+
+/// The only two words after a command's name, its files. `None` exactly where there are fewer or more.
+fn two_files(rest: &[String]) -> Option<(&str, &str)>
+    ensures { option_map (λ files. (files.0.now, files.1.now)) result ≡ two_files (words_of rest.now) }
+{
+    match rest {
+        [file, second] => Some((file.as_str(), second.as_str())),
+        _ => None,
     }
 }
 

@@ -4,13 +4,15 @@ ghost use Rattle.arrayvec.specs.ArrayVec.{array_vec_len};
 ghost use Rattle.poke_tool.specs.declared.fault.Fault.TheVariants.{Memory, Write};
 ghost use Rattle.poke_tool.specs.declared.fault.Fault.TheVariants.{Refused as RefusedFault};
 ghost use Rattle.poke_tool.specs.declared.fault.Refusal.TheVariants.{Module as ModuleRefusal, Plan as PlanRefusal};
-ghost use Rattle.poke_tool.specs.Fault.{elf_name, elf_number, image_name, image_place, kind_name, module_reason, name_of};
+ghost use Rattle.poke_tool.specs.Fault.{elf_name, elf_number, image_name, image_place, kind_name, module_reason, name_of, script_name, script_reason};
 
 use crate::module_fault::ModuleRefused;
 use crate::plan_line::PlanRefused;
+use crate::script_fault::ScriptRefused;
 use elf_module::ElfRefused;
 use module_image::Refused;
-use poke_base::{Line, NoMemory, WriteFail, put_hex, put_text};
+use poke_base::{Line, NoMemory, WriteFail, put_dec, put_hex, put_text};
+use script_text::ScriptWhy;
 use site_tables::TableKind;
 use thiserror::Error;
 
@@ -23,6 +25,9 @@ pub enum Refusal {
     /// The plan file.
     #[error("plan: {0}")]
     Plan(PlanRefused),
+    /// The script file.
+    #[error("script: {0}")]
+    Script(ScriptRefused),
 }
 
 /// Why a command failed.
@@ -86,7 +91,7 @@ impl Refusal {
     {
         match self {
             Refusal::Module(_) => 2,
-            Refusal::Plan(_) => 3,
+            Refusal::Plan(_) | Refusal::Script(_) => 3,
         }
     }
 
@@ -105,6 +110,10 @@ impl Refusal {
             Refusal::Plan(why) => {
                 put_text(line, b"plan: ");
                 put_text(line, plan_name(why));
+            }
+            Refusal::Script(why) => {
+                put_text(line, b"script: ");
+                put_script(line, why);
             }
         }
     }
@@ -177,6 +186,24 @@ fn put_module(line: &mut Line, why: &ModuleRefused)
     }
 }
 
+/// Adds what is wrong with a script, a name or a line and a name, to the line.
+#[tactic(auto, using(poke_base::proofs::Numbers::line_room))]
+fn put_script(line: &mut Line, why: &ScriptRefused)
+    requires { array_vec_len line.old ≤ 18 }
+    ensures reason { line.new.items ≡ line.old.items ++ script_reason why.now }
+    ensures short { length (script_reason why.now) ≤ 34 }
+{
+    match why {
+        ScriptRefused::TooLong => put_text(line, b"TooLong"),
+        ScriptRefused::Line { line: number, why } => {
+            put_text(line, b"line ");
+            put_dec(line, u64::from(*number));
+            put_text(line, b": ");
+            put_text(line, script_name(why));
+        }
+    }
+}
+
 /// Adds what says where a module isn't accepted, a word of a table or numbers, to the line.
 #[tactic(auto, using(poke_base::proofs::Numbers::line_room))]
 fn put_image_place(line: &mut Line, why: &Refused)
@@ -245,6 +272,24 @@ fn plan_name(why: &PlanRefused) -> &'static [u8]
         PlanRefused::Line => b"Line",
         PlanRefused::NoReach => b"NoReach",
         PlanRefused::Old => b"Old",
+    }
+}
+
+/// The name of why a line of a script is refused.
+fn script_name(why: &ScriptWhy) -> &'static [u8]
+    ensures name { result.now ≡ script_name why.now }
+    ensures short { length result.now ≤ 7 }
+{
+    match why {
+        ScriptWhy::Word => b"Word",
+        ScriptWhy::NoCpu => b"NoCpu",
+        ScriptWhy::LateCpu => b"LateCpu",
+        ScriptWhy::Cpus => b"Cpus",
+        ScriptWhy::Number => b"Number",
+        ScriptWhy::Name => b"Name",
+        ScriptWhy::Updates => b"Updates",
+        ScriptWhy::Drops => b"Drops",
+        ScriptWhy::Turns => b"Turns",
     }
 }
 

@@ -4,6 +4,7 @@
 
 mod check;
 mod command;
+mod dry_run;
 mod entry_lines;
 mod fault;
 mod input;
@@ -13,10 +14,15 @@ mod module_file;
 mod plan;
 mod plan_line;
 mod print_table;
+mod script_fault;
+mod script_file;
 mod show;
+mod site_lines;
 mod top;
+mod wants;
 
 pub use fault::{Fault, Refusal};
 pub use module_fault::ModuleRefused;
 pub use plan_line::PlanRefused;
+pub use script_fault::ScriptRefused;
 pub use top::textpoke;

@@ -11,13 +11,14 @@ use crate::fault::Fault;
 use crate::make::make;
 use crate::plan::plan;
 use crate::show::show;
+use crate::wants::wants;
 use poke_base::Host;
 use std::alloc::Global;
 
 /// Does the command that the words are, and answers the status with which the program ends. The
 /// words don't have the program's name.
 ///
-/// 0: done. 1: the words are no command. 2: the module was refused. 3: the plan file was refused.
+/// 0: done. 1: the words are no command. 2: the module was refused. 3: the plan or script file was refused.
 /// 5: a file wasn't read. 6: a write failed. 7: out of memory. At every status but 0 the reason is
 /// reported in one line; a report that fails leaves the status as it is.
 ///
@@ -58,5 +59,6 @@ fn do_command<H: Host>(alloc: Global, words: &[String], host: &mut H) -> Result<
         Some(Command::Show { module }) => show(alloc, module, host),
         Some(Command::Check { module }) => check(alloc, module, host),
         Some(Command::Make { blocks, module }) => make(alloc, blocks, module, host),
+        Some(Command::Wants { module, script }) => wants(alloc, module, script, host),
     }
 }

@@ -43,7 +43,7 @@ meanings m n alike (Call key name) =
     ∙ ap (λ (o : Option ℕ). updates (target (key_named n CallKey key) (if bytes_eq name (codes "-") then Some 0 else o))) (alike.functions name)
 meanings m n alike (Trace on name) =
     let same : site_of m (function_named m name) ≡ site_of n (function_named n name) =
-        ap (λ (o : Option ℕ). site_of m o) (alike.functions name) ∙ trace_sites m n alike (function_named n name)
+    ap (λ (o : Option ℕ). site_of m o) (alike.functions name) ∙ trace_sites m n alike (function_named n name)
     in
     ap
     (λ (o : Option ℕ). updates (if bytes_eq name (codes "*") then Some (command.TraceAll on) else option_map (λ site. command.Trace site on) o))

@@ -19,22 +19,24 @@ said_text base base' text text' line printed same_base same_text is printed_is =
 
 pub returns-in_err-print : goal.returns-in_err-print
 returns-in_err-print g c =
-    let said : c.deref.result.now ≡ text_line c.args.image.now.base c.args.image.now.text = said_text c.base.result c.args.image.now.base c.text.result.now c.args.image.now.text c.text_line.result.items c.deref.result.now c.base.ensures.base c.text.ensures.text c.text_line.ensures c.deref.ensures.0 in
+    let said : c.deref.result.now ≡ text_line c.args.image.now.base c.args.image.now.text = said_text c.base.result c.args.image.now.base c.text-text.result.now c.args.image.now.text c.text_line.result.items c.deref.result.now c.base.ensures.base c.text-text.ensures.text c.text_line.ensures c.deref.ensures.0 in
     as_failed _ _ _ c.in_err-print.field-0.0 c.from_residual.result c.from_residual.ensures.0
     (first_failed (text_line c.args.image.now.base c.args.image.now.text) (site_lines c.args.image.now.base c.args.image.now.text c.args.image.now.sites) accepted_line c.in_err-print.field-0.0 _ _
     (subst (λ (text : List ℕ). Prints {T = Unit {0}} {E = WriteFail} (g.H.Host.outside c.args.host.now) (g.H.Host.outside c.print.new.self) text (Err c.in_err-print.field-0.0)) said c.in_err-print.ensures))
 
 pub returns-in_err-print_sites : goal.returns-in_err-print_sites
 returns-in_err-print_sites g c =
-    let said : c.deref.result.now ≡ text_line c.args.image.now.base c.args.image.now.text = said_text c.base.result c.args.image.now.base c.text.result.now c.args.image.now.text c.text_line.result.items c.deref.result.now c.base.ensures.base c.text.ensures.text c.text_line.ensures c.deref.ensures.0 in
+    let said : c.deref.result.now ≡ text_line c.args.image.now.base c.args.image.now.text = said_text c.base.result c.args.image.now.base c.text-text.result.now c.args.image.now.text c.text_line.result.items c.deref.result.now c.base.ensures.base c.text-text.ensures.text c.text_line.ensures c.deref.ensures.0 in
     as_failed _ _ _ c.in_err-print_sites.field-0.0 c.from_residual-in_err-print_sites.result c.from_residual-in_err-print_sites.ensures.0
     (Prints-part _ _ _ (text_line c.args.image.now.base c.args.image.now.text) (site_lines c.args.image.now.base c.args.image.now.text c.args.image.now.sites) accepted_line tt c.in_err-print_sites.field-0.0
-    (subst (λ (text : List ℕ). Prints {T = Unit {0}} {E = WriteFail} (g.H.Host.outside c.args.host.now) (g.H.Host.outside c.print.new.self) text (Ok tt)) said c.in_ok-print.ensures) c.in_err-print_sites.ensures)
+    (subst (λ (text : List ℕ). Prints {T = Unit {0}} {E = WriteFail} (g.H.Host.outside c.args.host.now) (g.H.Host.outside c.print.new.self) text (Ok tt)) said c.in_ok-print.ensures)
+    (subst (λ (text : List ℕ). Prints {T = Unit {0}} {E = WriteFail} (g.H.Host.outside c.print.new.self) (g.H.Host.outside c.print_sites.new.host) (site_lines c.args.image.now.base text c.args.image.now.sites) (Err c.in_err-print_sites.field-0.0)) c.text-text.ensures.text c.in_err-print_sites.ensures))
 
 pub returns : goal.returns
 returns g c =
-    let said : c.deref.result.now ≡ text_line c.args.image.now.base c.args.image.now.text = said_text c.base.result c.args.image.now.base c.text.result.now c.args.image.now.text c.text_line.result.items c.deref.result.now c.base.ensures.base c.text.ensures.text c.text_line.ensures c.deref.ensures.0 in
+    let said : c.deref.result.now ≡ text_line c.args.image.now.base c.args.image.now.text = said_text c.base.result c.args.image.now.base c.text-text.result.now c.args.image.now.text c.text_line.result.items c.deref.result.now c.base.ensures.base c.text-text.ensures.text c.text_line.ensures c.deref.ensures.0 in
     Prints-more _ _ _ (text_line c.args.image.now.base c.args.image.now.text ++ site_lines c.args.image.now.base c.args.image.now.text c.args.image.now.sites) accepted_line tt _
     (Prints-more _ _ _ (text_line c.args.image.now.base c.args.image.now.text) (site_lines c.args.image.now.base c.args.image.now.text c.args.image.now.sites) tt _
-    (subst (λ (text : List ℕ). Prints {T = Unit {0}} {E = WriteFail} (g.H.Host.outside c.args.host.now) (g.H.Host.outside c.print.new.self) text (Ok tt)) said c.in_ok-print.ensures) c.in_ok-print_sites.ensures)
+    (subst (λ (text : List ℕ). Prints {T = Unit {0}} {E = WriteFail} (g.H.Host.outside c.args.host.now) (g.H.Host.outside c.print.new.self) text (Ok tt)) said c.in_ok-print.ensures)
+    (subst (λ (text : List ℕ). Prints {T = Unit {0}} {E = WriteFail} (g.H.Host.outside c.print.new.self) (g.H.Host.outside c.print_sites.new.host) (site_lines c.args.image.now.base text c.args.image.now.sites) (Ok tt)) c.text-text.ensures.text c.in_ok-print_sites.ensures))
     c.print-2.ensures

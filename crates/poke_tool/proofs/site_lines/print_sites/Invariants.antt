@@ -3,7 +3,7 @@ use Rattle.std.specs.List.{flat_map}
 use Rattle.poke_base.specs.declared.host.WriteFail.{WriteFail}
 use Rattle.poke_base.specs.Host.{Prints}
 use Rattle.poke_tool.specs.Check.{line_of}
-use Rattle.poke_tool.proofs.check.print_sites.Given as goal
+use Rattle.poke_tool.proofs.site_lines.print_sites.Given as goal
 
 abbrev pub invariant-loop-site : goal.invariant-loop-site
 invariant-loop-site g l =

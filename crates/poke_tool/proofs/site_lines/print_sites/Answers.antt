@@ -8,7 +8,7 @@ use Rattle.module_image.specs.SiteLine.{site_line}
 use Rattle.poke_tool.specs.Check.{line_of, site_lines}
 use Rattle.poke_tool.proofs.Plans.{as_failed}
 use Rattle.poke_tool.proofs.ItemLines.{item_failed, item_printed}
-use Rattle.poke_tool.proofs.check.print_sites.Goals as goal
+use Rattle.poke_tool.proofs.site_lines.print_sites.Goals as goal
 
 -- what stands where a list has no site
 blank : Site
@@ -22,15 +22,14 @@ returns-in_err-print g c =
     (
     subst (λ (text : List ℕ). Prints {T = Unit {0}} {E = WriteFail} (g.H.Host.outside c.args.host.now) (g.H.Host.outside c.print.new.self) text (Err c.in_err-print.field-0.0))
     (
-    ap (λ (sites : List Site). site_lines c.base-base.result c.text-text.result.now sites) c.sites-site-items.ensures.sites
-    ∙ ap (λ (base : ℕ). site_lines base c.text-text.result.now c.args.image.now.sites) c.base-base.ensures.base
-    ∙ ap (λ (text : List ℕ). site_lines c.args.image.now.base text c.args.image.now.sites) c.text-text.ensures.text
+    ap (λ (sites : List Site). site_lines c.base-base.result c.args.text.now sites) c.sites-site-items.ensures.sites
+    ∙ ap (λ (base : ℕ). site_lines base c.args.text.now c.args.image.now.sites) c.base-base.ensures.base
     )
-    (item_failed (line_of c.base-base.result c.text-text.result.now) c.sites-site-items.result.now c.loop-site.site-index at_sites c.deref.result.now c.in_err-print.field-0.0 _ _ _ (slice_get-get_or c.sites-site-items.result.now c.loop-site.site-index blank c.loop-site-test.true) c.loop-site.invariant (c.deref.ensures.0 ∙ c.site_line.ensures ∙ ap (λ (code : List ℕ). site_line at_sites code) c.code_of.ensures.code) c.in_err-print.ensures)
+    (item_failed (line_of c.base-base.result c.args.text.now) c.sites-site-items.result.now c.loop-site.site-index at_sites c.deref.result.now c.in_err-print.field-0.0 _ _ _ (slice_get-get_or c.sites-site-items.result.now c.loop-site.site-index blank c.loop-site-test.true) c.loop-site.invariant (c.deref.ensures.0 ∙ c.site_line.ensures ∙ ap (λ (code : List ℕ). site_line at_sites code) c.code_of.ensures.code) c.in_err-print.ensures)
     )
 
 pub loop-site-preserved : goal.loop-site-preserved
 unfolding blank
 loop-site-preserved g c =
     let at_sites : Site = slice_index_or c.sites-site-items.result.now c.loop-site.site-index blank in
-    item_printed (line_of c.base-base.result c.text-text.result.now) c.sites-site-items.result.now c.loop-site.site-index at_sites c.deref.result.now _ _ _ (slice_get-get_or c.sites-site-items.result.now c.loop-site.site-index blank c.loop-site-test.true) c.loop-site.invariant (c.deref.ensures.0 ∙ c.site_line.ensures ∙ ap (λ (code : List ℕ). site_line at_sites code) c.code_of.ensures.code) c.in_ok-print.ensures
+    item_printed (line_of c.base-base.result c.args.text.now) c.sites-site-items.result.now c.loop-site.site-index at_sites c.deref.result.now _ _ _ (slice_get-get_or c.sites-site-items.result.now c.loop-site.site-index blank c.loop-site-test.true) c.loop-site.invariant (c.deref.ensures.0 ∙ c.site_line.ensures ∙ ap (λ (code : List ℕ). site_line at_sites code) c.code_of.ensures.code) c.in_ok-print.ensures

@@ -1,0 +1,187 @@
+//! `wants`: how the updates of a script end, and what the sites then hold.
+
+use crate::frame::{Row, run, run_failing};
+use crate::modules::{F, Small, TWO_SWITCHES, file, jump};
+use elf_build::{KeyStart, PlanSite};
+use std::test::Fail;
+
+/// A call of a tail call, whose key holds the function after it.
+const TAIL: Small<'static> = Small {
+    text: b"\xe8\x03\0\0\0\xe6\x10\xf4\xe9\0\0\0\0\xb8\x01\0\0\0\xc3",
+    sites: &[PlanSite::Call {
+        at: F + 8,
+        key: 0,
+        tail: true,
+    }],
+    keys: &[(b"tk", KeyStart::Func(F + 13))],
+    functions: &[(b"f", F), (b"a", F + 13)],
+};
+
+/// Gives the tail call no function, and then the one that it had.
+const THERE_AND_BACK: &[u8] = b"cpu f\ncall tk -\ncall tk a\n";
+
+/// Commands that a count allows and others that it doesn't, with steps that no update is.
+const COUNTS: &[u8] = b"# j is 0\n\
+    cpu f\n\
+    dec j\n\
+    inc j\n\
+    run 5\n\
+    inc j\n\
+    enable j\n\
+    disable j\n\
+    drop 0\n\
+    dec j\n\
+    disable j\n\
+    disable j\n";
+
+/// What is printed for it.
+const COUNTS_TEXT: &[u8] = b"update 1 refused count 0\n\
+    update 2 done 2\n\
+    update 3 done 0\n\
+    update 4 refused count 2\n\
+    update 5 refused count 2\n\
+    update 6 done 0\n\
+    update 7 done 2\n\
+    update 8 done 0\n\
+    site 401000 jump 6690\n\
+    site 401002 jump e902000000\n";
+
+#[test]
+fn updates_end(rt: HostRuntime) -> Result<(), Fail> {
+    let full = Small {
+        keys: &[(b"j", KeyStart::Count(0x7fff_ffff))],
+        ..TWO_SWITCHES
+    };
+    // A load stands at the first jump entry.
+    let foreign = Small {
+        text: b"\xb8\x01\0\0\0f\x90\xc3",
+        sites: &[jump(F, F + 5, 0), jump(F + 5, F + 7, 1)],
+        keys: &[(b"k", KeyStart::Count(0)), (b"k2", KeyStart::Count(0))],
+        functions: &[(b"f", F)],
+    };
+    let rows: [(&str, Small<'_>, &[u8], &[u8]); 4] = [
+        (
+            "there and back",
+            TAIL,
+            THERE_AND_BACK,
+            b"update 1 done 1\nupdate 2 done 1\nsite 401008 tail e900000000\n",
+        ),
+        ("counts", TWO_SWITCHES, COUNTS, COUNTS_TEXT),
+        (
+            "the greatest count",
+            full,
+            b"cpu f\ninc j",
+            b"update 1 refused count 2147483647\nsite 401000 jump eb07\nsite 401002 jump 0f1f440000\n",
+        ),
+        (
+            "a foreign site",
+            foreign,
+            b"cpu f\ninc k\ninc k\ninc k2\n",
+            b"update 1 refused clash 401000 b801000000 0f1f440000\n\
+            update 2 refused clash 401000 b801000000 0f1f440000\n\
+            update 3 done 1\n\
+            site 401000 jump b801000000 foreign\n\
+            site 401005 jump eb00\n",
+        ),
+    ];
+    for (name, small, script, printed) in rows {
+        let module = file(rt.alloc(), &small)?;
+        let files: [(&str, &[u8]); 2] = [("m", &module), ("s", script)];
+        run(&rt, &(name, &["wants", "m", "s"], &files, 0, printed, b""))?;
+    }
+    Ok(())
+}
+
+#[test]
+fn scripts_are_refused(rt: HostRuntime) -> Result<(), Fail> {
+    let alloc = rt.alloc();
+    let module = file(alloc, &TAIL)?;
+    let mut most = Vec::from_slice(alloc, b"cpu f")?;
+    most.extend_from_slice(&vec![in alloc; b' '; 65_531]?)?;
+    let mut long = Vec::from_slice(alloc, &most)?;
+    long.push(b' ')?;
+    let site: &[u8] = b"site 401008 tail e900000000\n";
+    let rows: [(&str, &[u8], u8, &[u8], &[u8]); 4] = [
+        ("65536 bytes", &most, 0, site, b""),
+        ("65537 bytes", &long, 3, b"", b"textpoke: script: TooLong\n"),
+        ("no line", b"", 3, b"", b"textpoke: script: line 1: NoCpu\n"),
+        (
+            "no key",
+            b"cpu f\ncall tk a\ncall k a\n",
+            3,
+            b"",
+            b"textpoke: script: line 3: Name\n",
+        ),
+    ];
+    for (name, script, status, printed, reported) in rows {
+        let files: [(&str, &[u8]); 2] = [("m", &module), ("s", script)];
+        run(
+            &rt,
+            &(
+                name,
+                &["wants", "m", "s"],
+                &files,
+                status,
+                printed,
+                reported,
+            ),
+        )?;
+    }
+    Ok(())
+}
+
+#[test]
+fn missing_files_and_bad_modules(rt: HostRuntime) -> Result<(), Fail> {
+    let module = file(rt.alloc(), &TAIL)?;
+    let read: &[u8] = b"textpoke: read failed\n";
+    let rows: [(&str, &[(&str, &[u8])], u8, &[u8]); 3] = [
+        ("no module", &[("s", b"inc j")], 5, read),
+        ("no script", &[("m", &module)], 5, read),
+        (
+            "a bad module",
+            &[("m", b"?"), ("s", b"inc j")],
+            2,
+            b"textpoke: module: Short 1\n",
+        ),
+    ];
+    for (name, files, status, reported) in rows {
+        run(
+            &rt,
+            &(name, &["wants", "m", "s"], files, status, b"", reported),
+        )?;
+    }
+    Ok(())
+}
+
+#[test]
+fn failing_calls_leave_a_prefix(rt: HostRuntime) -> Result<(), Fail> {
+    let module = file(rt.alloc(), &TAIL)?;
+    let files: [(&str, &[u8]); 2] = [("m", &module), ("s", THERE_AND_BACK)];
+    let read: &[u8] = b"textpoke: read failed\n";
+    let write: &[u8] = b"textpoke: write failed\n";
+    // The module is read, then the script, and three prints follow.
+    let rows: [(u64, u8, &[u8], &[u8]); 5] = [
+        (1, 5, b"", read),
+        (2, 5, b"", read),
+        (3, 6, b"update 1", write),
+        (4, 6, b"update 1 done 1\nupdate 2", write),
+        (
+            5,
+            6,
+            b"update 1 done 1\nupdate 2 done 1\nsite 401008 ta",
+            write,
+        ),
+    ];
+    for (failing, status, printed, reported) in rows {
+        let row: Row<'_> = (
+            "a call fails",
+            &["wants", "m", "s"],
+            &files,
+            status,
+            printed,
+            reported,
+        );
+        run_failing(&rt, Some(failing), &row)?;
+    }
+    Ok(())
+}
