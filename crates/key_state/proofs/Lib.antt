@@ -8,3 +8,4 @@ pub mod Clashing
 pub mod Rewriting
 pub mod Settling
 pub mod Going
+mod Examples

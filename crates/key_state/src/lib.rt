@@ -8,6 +8,8 @@ mod keys;
 pub mod laws;
 mod outcome;
 mod settled;
+#[cfg(test)]
+mod tests;
 mod writing;
 
 pub use count::CountRefused;
