@@ -1,5 +1,5 @@
 -- The number of a processor, of at most 16, has at most two digits.
-use Rattle.std.proofs.Common.{◌≡◌, ℕ, ◌+◌, ◌/◌, ◌%◌, ◌<◌, ◌≤◌, inl, inr, List, [], ◌∷◌, length, ◌∙◌, ap, arith}
+use Rattle.std.proofs.Common.{ℕ, ◌/◌, ◌≤◌, inl, inr, length, ap, arith}
 use Rattle.std.proofs.lemmas.Bool.{cases_lt}
 use Rattle.poke_base.specs.Number.{decimal}
 use Rattle.poke_base.proofs.Numbers.{spelling-digit, length-spelling-more}

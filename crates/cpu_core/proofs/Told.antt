@@ -5,7 +5,7 @@ use Rattle.std.proofs.lemmas.List.{take-append-drop, take-append-le}
 use Rattle.std.proofs.Math.Seq.{take-append_seam}
 use Rattle.x64_subset.specs.declared.insn.Insn.{Insn}
 use Rattle.x64_subset.specs.declared.insn.Undecoded.TheVariants.{Short, Unknown}
-use Rattle.x64_subset.specs.Spells.{Spells, Stands}
+use Rattle.x64_subset.specs.Spells.{Stands}
 use Rattle.x64_subset.specs.Reading.{Answer, read}
 use Rattle.x64_subset.proofs.Answered.{read_cut, read_stands, stands_read}
 use Rattle.x64_subset.proofs.Exact.{AreBytes, stands_spelt}

@@ -3,7 +3,7 @@ use Rattle.std.specs.Prelude.{ℕ, List, [], ◌∷◌, ◌++◌, codes}
 use Rattle.hex.specs.Hex.{encode_lower}
 use Rattle.poke_base.specs.Number.{decimal, hexadecimal}
 use Rattle.x64_subset.specs.declared.insn.Insn.{Insn}
-use Rattle.x64_subset.specs.declared.insn.Insn.TheVariants.{Nop, Int3, Jmp8, Jmp32, Call, Ret, Jcc8, Jcc32, Alu, AluImm, Inc, Dec, MovImm, Hlt, Ud2, Out as OutTo, Endbr64, Serialize}
+use Rattle.x64_subset.specs.declared.insn.Insn.TheVariants.{Nop, Jmp8, Jmp32, Call, Ret}
 use Rattle.x64_subset.specs.declared.proc.FaultKind.{FaultKind}
 use Rattle.x64_subset.specs.declared.proc.FaultKind.TheVariants.{Undefined, Breakpoint, Depth}
 use Rattle.x64_subset.specs.declared.proc.Life.{Life}

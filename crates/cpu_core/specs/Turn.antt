@@ -1,12 +1,12 @@
 -- What one turn of a processor does.
-use Rattle.std.specs.Prelude.{◌≡◌, ℕ, ◌+◌, Bool, true, false, if◌then◌else◌, List, Option, Some, None, Result, Ok, Err}
+use Rattle.std.specs.Prelude.{ℕ, Bool, true, false, if◌then◌else◌, List, Option, Some, None, Result, Ok, Err}
 use Rattle.insn_forms.specs.Spelling.{after}
 use Rattle.int3_handler.specs.Handler.{handled}
 use Rattle.module_image.specs.Layout.{site_at}
 use Rattle.module_image.specs.Module.{Module, plain_at}
 use Rattle.poke_batch.specs.Walk.{Walk}
 use Rattle.x64_subset.specs.declared.insn.Insn.{Insn}
-use Rattle.x64_subset.specs.declared.insn.Insn.TheVariants.{Nop, Int3, Jmp8, Jmp32, Call, Ret, Jcc8, Jcc32, Alu, AluImm, Inc, Dec, MovImm, Hlt, Ud2, Out, Endbr64, Serialize}
+use Rattle.x64_subset.specs.declared.insn.Insn.TheVariants.{Int3, Serialize}
 use Rattle.x64_subset.specs.declared.insn.Undecoded.{Undecoded}
 use Rattle.x64_subset.specs.declared.proc.FaultKind.TheVariants.{Undefined}
 use Rattle.x64_subset.specs.declared.proc.Life.{Life}

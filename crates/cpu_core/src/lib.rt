@@ -4,6 +4,8 @@
 mod cpu;
 mod fetch;
 mod lines;
+#[cfg(test)]
+mod tests;
 mod turn;
 
 pub use cpu::Cpu;

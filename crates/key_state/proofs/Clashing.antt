@@ -1,8 +1,7 @@
 -- Where patched sites hold what they want, a change clashes exactly where its site is foreign.
-use Rattle.std.proofs.Common.{◌≡◌, ◌∙◌, ◌+◌, ◌-◌, ◌<◌, ◌≤◌, ◌⊎◌, inl, inr, ℕ, Bool, true, false, cond, not, List, [], ◌∷◌, length, All, Option, Some, None, slice_get, refl, sym, ap, subst, arith, true≢false}
+use Rattle.std.proofs.Common.{◌≡◌, ◌∙◌, ◌+◌, ◌-◌, ◌<◌, ◌≤◌, inl, inr, ℕ, Bool, true, false, cond, not, List, [], ◌∷◌, length, All, Option, Some, None, slice_get, refl, sym, ap, arith, true≢false}
 use Rattle.std.specs.List.{find}
 use Rattle.std.specs.Option.{is_none, unwrap_or}
-use Rattle.std.specs.Str.{bytes_eq}
 use Rattle.std.proofs.lemmas.Bool.{cases_order}
 use Rattle.std.proofs.lemmas.List.Elements.{All-head, All-tail}
 use Rattle.std.proofs.lemmas.Option.{same_Some}
@@ -10,23 +9,23 @@ use Rattle.std.proofs.lemmas.Slice.Eq.{bytes_eq-Decides}
 use Rattle.insn_forms.specs.declared.forms.Change.{Change}
 use Rattle.insn_forms.specs.History.{text_byte}
 use Rattle.insn_forms.specs.Spelling.{size, spell}
-use Rattle.key_state.specs.Changes.{AreStatesOf, changes, first_foreign, is_foreign}
+use Rattle.key_state.specs.Changes.{AreStatesOf, changes, is_foreign}
 use Rattle.key_state.specs.Laws.{ClashesAreForeign}
 use Rattle.key_state.specs.Outcome.{HoldsWanted}
 use Rattle.key_state.proofs.Differing.{IsChangeOf, all_from}
 use Rattle.key_state.proofs.Pieces.{held_piece, same_piece}
-use Rattle.key_state.proofs.Poking.{IsSpeltAt, spelt_there}
+use Rattle.key_state.proofs.Poking.{spelt_there}
 use Rattle.module_image.specs.declared.site.Site.{Site}
 use Rattle.module_image.specs.Held.{IsBeside}
 use Rattle.module_image.specs.Layout.{site_at}
 use Rattle.module_image.specs.Lent.{IsLaidOut}
-use Rattle.module_image.specs.Module.{IsAccepted, Module, States, layout_of, wants}
+use Rattle.module_image.specs.Module.{IsAccepted, Module, States, layout_of}
 use Rattle.module_image.specs.Sites.{code_at}
 use Rattle.module_image.proofs.HeldForms.{foreign_hold, foreign_off}
 use Rattle.module_image.proofs.Lent.{sites_laid_out}
 use Rattle.module_image.proofs.UnitLaws.{site_is, site_numbered}
 use Rattle.module_image.proofs.WrittenSites.{IsOff}
-use Rattle.poke_batch.specs.Clash.{first_clash, held_bytes, holds_old}
+use Rattle.poke_batch.specs.Clash.{held_bytes, holds_old}
 use Rattle.poke_batch.specs.Poke.{spelled}
 
 -- ---- which sites are patched

@@ -1,6 +1,6 @@
 -- What a command needs of the states that it is done on, and that counts stay counts.
-use Rattle.std.proofs.Common.{◌≡◌, ◌≢◌, ◌==◌, ◌+◌, ◌-◌, ◌<◌, ◌≤◌, ℕ, Bool, true, false, cond, Result, Ok, Err, length, refl, arith, if◌then◌else◌}
-use Rattle.std.proofs.lemmas.Bool.{eqb-true, eq-eqb}
+use Rattle.std.proofs.Common.{◌≡◌, ◌==◌, ◌+◌, ◌-◌, ◌≤◌, ℕ, Bool, true, false, cond, Result, Ok, Err, refl, arith, if◌then◌else◌}
+use Rattle.std.proofs.lemmas.Bool.{eq-eqb}
 use Rattle.key_state.specs.declared.count.CountRefused.{CountRefused}
 use Rattle.key_state.specs.declared.count.CountRefused.TheVariants.{Zero, Greatest, Above}
 use Rattle.key_state.specs.After.{by_count, dec_after, disable_after, enable_after, greatest_count, inc_after}

@@ -1,16 +1,15 @@
 -- What the changes between two states are, site by site.
-use Rattle.std.proofs.Common.{◌≡◌, ◌∙◌, ◌⊎◌, inl, inr, ◌+◌, ◌<◌, ◌≤◌, ℕ, zero, suc, Bool, true, false, cond, List, [], ◌∷◌, ◌++◌, length, All, AllPairs, Option, Some, None, option_map, slice_get, slice_index_or, refl, sym, ap, subst, arith}
+use Rattle.std.proofs.Common.{◌≡◌, ◌∙◌, ◌⊎◌, inl, inr, ◌+◌, ◌<◌, ◌≤◌, ℕ, zero, suc, Bool, true, false, cond, List, [], ◌∷◌, ◌++◌, length, All, AllPairs, Option, Some, option_map, slice_get, slice_index_or, refl, sym, ap, subst, arith}
 use Rattle.std.specs.List.{flat_map, range_with_len}
 use Rattle.std.specs.Option.{unwrap_or}
 use Rattle.std.proofs.lemmas.List.{append_assoc, append-nil, length-append}
 use Rattle.std.proofs.lemmas.List.Elements.{All-append, All-nil, All-cons}
 use Rattle.std.proofs.lemmas.List.Kept.{AllPairs-cons}
-use Rattle.std.proofs.lemmas.Option.{same_Some}
 use Rattle.insn_forms.specs.declared.forms.Form.{Form}
 use Rattle.insn_forms.specs.declared.forms.Change.{Change}
 use Rattle.insn_forms.specs.Same.{same_form}
 use Rattle.insn_forms.proofs.Same.{same_true}
-use Rattle.key_state.specs.Changes.{change_at, change_between, change_of, changes}
+use Rattle.key_state.specs.Changes.{change_at, change_between, change_of}
 use Rattle.module_image.specs.declared.site.Site.{Site}
 use Rattle.module_image.specs.Module.{Module, States, tracer_of, wants}
 use Rattle.module_image.specs.Wants.{state_of, wanted}

@@ -1,8 +1,7 @@
 -- The states as the file has them.
-use Rattle.std.proofs.Common.{◌≡◌, ◌∙◌, ◌<◌, ◌≤◌, ◌^◌, ◌⊎◌, ℕ, false, length, get_or, map, replicate, Some, option_map, slice_get, refl, sym, ap, subst, arith}
+use Rattle.std.proofs.Common.{◌≡◌, ◌∙◌, ℕ, false, length, get_or, Some, option_map, slice_get, refl, ap, arith}
 use Rattle.std.proofs.lemmas.List.{length-map, length-replicate}
 use Rattle.std.proofs.lemmas.Option.{get_or_from_slice_get, slice_get-map}
-use Rattle.key_state.specs.After.{greatest_count}
 use Rattle.key_state.specs.Changes.{AreStatesOf}
 use Rattle.key_state.specs.Laws.{FirstStatesAreOfTheModule}
 use Rattle.key_state.specs.Outcome.{HoldsWanted}

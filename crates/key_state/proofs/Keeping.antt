@@ -1,22 +1,20 @@
 -- What commands make of the states of a module are states of it.
 use Rattle.std.proofs.Common.{◌≡◌, ◌≢◌, ◌⊎◌, inl, inr, ◌∙◌, ◌<◌, ◌≤◌, ℕ, Bool, List, length, get_or, set, replicate, Option, Some, None, Result, Ok, Err, slice_get, slice_index, refl, sym, ap, subst, arith, get_or-set_same}
 use Rattle.std.proofs.lemmas.Bool.{cases_eq}
-use Rattle.std.proofs.lemmas.List.{get_or-set_other, length-replicate, length-set, get_or-replicate}
-use Rattle.std.proofs.lemmas.Option.{get_or_from_slice_get, same_Some, slice_get-map}
+use Rattle.std.proofs.lemmas.List.{get_or-set_other, length-replicate, length-set}
+use Rattle.std.proofs.lemmas.Option.{same_Some}
 use Rattle.key_state.specs.declared.count.CountRefused.{CountRefused}
 use Rattle.insn_forms.specs.declared.forms.Change.{Change}
 use Rattle.key_state.specs.After.{after, dec_after, disable_after, enable_after, greatest_count, inc_after, with_all_traced, with_count, with_key, with_trace}
 use Rattle.key_state.specs.Changes.{AreStatesOf, changes, first_foreign}
 use Rattle.key_state.specs.Laws.{CommandsKeepStates, UpdatesKeepStates}
 use Rattle.key_state.specs.Outcome.{kept_at, settled_to}
-use Rattle.module_image.specs.declared.command.Command.{Command}
 use Rattle.module_image.specs.declared.command.Command.TheVariants.{Inc, Dec, Enable, Disable, Target, Trace, TraceAll}
 use Rattle.module_image.specs.declared.key.Key.{Key}
 use Rattle.module_image.specs.declared.key.KeyClass.TheVariants.{Jump as JumpKey, Call as CallKey}
-use Rattle.module_image.specs.Command.{IsCommandOf}
 use Rattle.module_image.specs.Layout.{IsStart}
 use Rattle.module_image.specs.Lent.{IsKeyOf}
-use Rattle.module_image.specs.Module.{IsAccepted, Module, States, layout_of}
+use Rattle.module_image.specs.Module.{Module, States, layout_of}
 use Rattle.module_image.proofs.StartLaws.{commands_lead}
 use Rattle.key_state.proofs.Counting.{Fits, dec_fits, disable_fits, enable_fits, inc_fits}
 

@@ -9,3 +9,4 @@ pub mod Rewriting
 pub mod Settling
 pub mod Going
 pub mod ShortNumbers
+mod Examples

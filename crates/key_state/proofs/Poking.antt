@@ -1,5 +1,5 @@
 -- The changes between two states can be poked.
-use Rattle.std.proofs.Common.{◌≡◌, ◌∙◌, ◌+◌, ◌<◌, ◌≤◌, ◌^◌, ℕ, List, length, Option, Some, slice_get, sym, ap, subst, arith}
+use Rattle.std.proofs.Common.{◌≡◌, ◌∙◌, ◌+◌, ◌<◌, ◌≤◌, ℕ, List, length, Some, slice_get, sym, ap, arith}
 use Rattle.std.specs.Prelude.{IsSome}
 use Rattle.std.specs.Option.{is_some}
 use Rattle.insn_forms.specs.declared.forms.Change.{Change}
@@ -12,11 +12,10 @@ use Rattle.key_state.specs.Laws.{ChangesCanBePoked}
 use Rattle.key_state.proofs.Differing.{IsChangeOf, all_from, pairs_from}
 use Rattle.key_state.proofs.Pieces.{some_byte}
 use Rattle.module_image.specs.declared.site.Site.{Site}
-use Rattle.module_image.specs.Lent.{IsLaidOut}
 use Rattle.module_image.specs.Module.{IsAccepted, Module, States, wants}
 use Rattle.module_image.proofs.Lent.{sites_laid_out}
 use Rattle.module_image.proofs.Reaching.{forms_reach}
-use Rattle.poke_batch.specs.Clash.{CanPoke, IsPatchable}
+use Rattle.poke_batch.specs.Clash.{IsPatchable}
 
 -- a form has a spelling at an address, of n bytes
 pub record IsSpeltAt (form : Form) (at len : ℕ) : Type 0 where

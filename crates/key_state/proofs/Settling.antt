@@ -5,7 +5,7 @@ use Rattle.insn_forms.specs.Spelling.{size}
 use Rattle.key_state.specs.declared.count.CountRefused.{CountRefused}
 use Rattle.key_state.specs.After.{after}
 use Rattle.key_state.specs.Changes.{AreStatesOf, changes, changes_by, changes_to, first_foreign}
-use Rattle.key_state.specs.Outcome.{Clashes, Ending, HoldsWanted, ending_at, ending_to, outcome}
+use Rattle.key_state.specs.Outcome.{Clashes, HoldsWanted, ending_at, ending_to, outcome}
 use Rattle.key_state.specs.Settled.{IsSettledOf, SettledState}
 use Rattle.key_state.specs.Writing.{IsInText, changes_written}
 use Rattle.key_state.proofs.Differing.{few_changes}

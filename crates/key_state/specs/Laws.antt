@@ -1,5 +1,5 @@
 -- Laws of commands and of the changes that they ask for.
-use Rattle.std.specs.Prelude.{◌≡◌, ℕ, List, ◌++◌, length, Option, Ok}
+use Rattle.std.specs.Prelude.{◌≡◌, ℕ, List, ◌++◌, length, Ok}
 use Rattle.insn_forms.specs.History.{text_byte}
 use Rattle.module_image.specs.declared.command.Command.{Command}
 use Rattle.module_image.specs.Command.{IsCommandOf}

@@ -9,6 +9,8 @@ pub mod laws;
 mod lines;
 mod outcome;
 mod settled;
+#[cfg(test)]
+mod tests;
 mod writing;
 
 pub use count::CountRefused;

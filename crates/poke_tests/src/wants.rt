@@ -94,38 +94,50 @@ fn updates_end(rt: HostRuntime) -> Result<(), Fail> {
 
 #[test]
 fn scripts_are_refused(rt: HostRuntime) -> Result<(), Fail> {
-    let alloc = rt.alloc();
-    let module = file(alloc, &TAIL)?;
-    let mut most = Vec::from_slice(alloc, b"cpu f")?;
-    most.extend_from_slice(&vec![in alloc; b' '; 65_531]?)?;
-    let mut long = Vec::from_slice(alloc, &most)?;
-    long.push(b' ')?;
-    let site: &[u8] = b"site 401008 tail e900000000\n";
-    let rows: [(&str, &[u8], u8, &[u8], &[u8]); 4] = [
-        ("65536 bytes", &most, 0, site, b""),
-        ("65537 bytes", &long, 3, b"", b"textpoke: script: TooLong\n"),
-        ("no line", b"", 3, b"", b"textpoke: script: line 1: NoCpu\n"),
+    let module = file(rt.alloc(), &TAIL)?;
+    let rows: [(&str, &[u8], &[u8]); 2] = [
+        ("no line", b"", b"textpoke: script: line 1: NoCpu\n"),
         (
             "no key",
             b"cpu f\ncall tk a\ncall k a\n",
-            3,
-            b"",
             b"textpoke: script: line 3: Name\n",
         ),
     ];
-    for (name, script, status, printed, reported) in rows {
+    for (name, script, reported) in rows {
         let files: [(&str, &[u8]); 2] = [("m", &module), ("s", script)];
-        run(
-            &rt,
-            &(
-                name,
-                &["wants", "m", "s"],
-                &files,
-                status,
-                printed,
-                reported,
-            ),
-        )?;
+        run(&rt, &(name, &["wants", "m", "s"], &files, 3, b"", reported))?;
+    }
+    Ok(())
+}
+
+#[test]
+fn long_scripts_are_refused(rt: HostRuntime) -> Result<(), Fail> {
+    let alloc = rt.alloc();
+    let module = file(alloc, &TAIL)?;
+    let site: &[u8] = b"site 401008 tail e900000000\n";
+    let rows: [(&str, usize, u8, &[u8], &[u8]); 2] = [
+        ("65536 bytes", 65_531, 0, site, b""),
+        (
+            "65537 bytes",
+            65_532,
+            3,
+            b"",
+            b"textpoke: script: TooLong\n",
+        ),
+    ];
+    for (name, blanks, status, printed, reported) in rows {
+        let mut script = vec![in alloc; b' '; blanks]?;
+        script.extend_from_slice(b"cpu f")?;
+        let files: [(&str, &[u8]); 2] = [("m", &module), ("s", &script)];
+        let row: Row<'_> = (
+            name,
+            &["wants", "m", "s"],
+            &files,
+            status,
+            printed,
+            reported,
+        );
+        run(&rt, &row)?;
     }
     Ok(())
 }

@@ -1,4 +1,4 @@
-use Rattle.std.proofs.Common.{◌≡◌, ◌+◌, ◌<◌, ◌≤◌, ℕ, arith, refl, slice_index}
+use Rattle.std.proofs.Common.{arith, refl, slice_index}
 use Rattle.std.proofs.lemmas.Option.{slice_get-get_or}
 use Rattle.stale_fetch.specs.Text.{Covers}
 use Rattle.cpu_core.proofs.SoFar.{so_far-more, so_far-all, its-at}

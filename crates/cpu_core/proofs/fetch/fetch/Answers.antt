@@ -1,5 +1,4 @@
-use Rattle.std.proofs.Common.{◌≡◌, ◌+◌, ◌/◌, ◌%◌, refl, slice_index, Bool, false, true, IsTrue, ◌<◌, ◌≤◌, ℕ, zero, suc, List, [], length, arith, sym, subst, ap, ◌∙◌, Err, inl, inr}
-use Rattle.std.proofs.lemmas.Bool.{cases_lt}
+use Rattle.std.proofs.Common.{◌≡◌, ◌+◌, ◌/◌, ◌%◌, refl, slice_index, Bool, false, IsTrue, ℕ, List, length, arith, subst, ◌∙◌, Err}
 use Rattle.stale_fetch.specs.Past.{candidates}
 use Rattle.cpu_core.specs.Standing.{end_of}
 use Rattle.stale_fetch.specs.Text.{Covers}

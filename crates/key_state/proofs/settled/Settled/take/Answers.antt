@@ -1,7 +1,6 @@
-use Rattle.std.proofs.Common.{◌∙◌, Option, None, Some, ap, arith, refl, sym}
+use Rattle.std.proofs.Common.{◌∙◌, ap, arith, refl, sym}
 use Rattle.std.specs.Vec.{with_items}
 use Rattle.std.proofs.lemmas.List.{with_items_is}
-use Rattle.insn_forms.specs.declared.forms.Change.{Change}
 use Rattle.key_state.specs.Changes.{first_foreign}
 use Rattle.key_state.specs.Settled.{SettledState}
 use Rattle.key_state.proofs.Settling.{all_inside, asked, clash_ends, few_asked, found_at, settled_after}
