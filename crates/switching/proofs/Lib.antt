@@ -32,3 +32,15 @@ pub mod ExamplesHandler
 pub mod ExamplesCall
 pub mod ExamplesTail
 pub mod ExamplesChunks
+pub mod ChoiceAllowed
+pub mod ChoiceMarks
+pub mod ChoiceLegal
+pub mod ChoiceReads
+pub mod ChoiceOne
+pub mod ChoiceThere
+pub mod ChoiceBound
+pub mod ChoiceForced
+pub mod ChoiceSteady
+pub mod ChoiceLowers
+pub mod ChoiceEnd
+pub mod ChoiceRuns

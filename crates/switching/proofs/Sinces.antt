@@ -64,13 +64,13 @@ two_found x y (w ∷ values) each =
     omega arith
 
 -- a value at a place of a range
-record IsAt (f : ℕ → ℕ) (low n v : ℕ) : Type 0 where
-  place : ℕ
-  from : low ≤ place
-  to : place < low + n
-  is : f place ≡ v
+pub record IsAt (f : ℕ → ℕ) (low n v : ℕ) : Type 0 where
+  pub place : ℕ
+  pub from : low ≤ place
+  pub to : place < low + n
+  pub is : f place ≡ v
 
-range_at : (f : ℕ → ℕ) (low n v : ℕ) → Has (map f (range_with_len low n)) v → IsAt f low n v
+pub range_at : (f : ℕ → ℕ) (low n v : ℕ) → Has (map f (range_with_len low n)) v → IsAt f low n v
 range_at f low zero v h = elim h [ ]
 range_at f low (suc n) v (inl is) = record { place = low; from = omega arith; to = omega arith; is = is }
 range_at f low (suc n) v (inr later) =

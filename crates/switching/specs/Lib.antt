@@ -7,3 +7,5 @@ pub mod Journal
 pub mod Switching
 pub mod Table
 pub mod Laws
+pub mod Choice
+pub mod ChoiceLaws

@@ -2,4 +2,5 @@
 //! the laws.
 #![tactic(auto)]
 
+pub mod choice_laws;
 pub mod laws;
