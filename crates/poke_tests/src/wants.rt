@@ -1,8 +1,10 @@
 //! `wants`: how the updates of a script end, and what the sites then hold.
 
-use crate::frame::{Row, run, run_failing};
+use crate::frame::{Row, run, run_failing, run_over};
 use crate::modules::{F, Small, TWO_SWITCHES, file, jump};
 use elf_build::{KeyStart, PlanSite};
+use poke_base::MemoryHost;
+use std::process::Abort;
 use std::test::Fail;
 
 /// A call of a tail call, whose key holds the function after it.
@@ -46,6 +48,22 @@ const COUNTS_TEXT: &[u8] = b"update 1 refused count 0\n\
     site 401000 jump 6690\n\
     site 401002 jump e902000000\n";
 
+/// Runs `wants` on a module and a script, and asserts the status, what is printed and what is reported.
+fn wants<R: Abort + AllocGlobal>(
+    rt: &R,
+    name: &str,
+    module: &[u8],
+    script: &[u8],
+    ended: (u8, &[u8], &[u8]),
+) -> Result<(), Fail> {
+    let mut host = MemoryHost::new(rt.alloc());
+    host.put("m", module)?;
+    host.put("s", script)?;
+    let (status, printed, reported) = ended;
+    let row: Row<'_> = (name, &["wants", "m", "s"], &[], status, printed, reported);
+    run_over(rt, &mut host, &row)
+}
+
 #[test]
 fn updates_end(rt: HostRuntime) -> Result<(), Fail> {
     let full = Small {
@@ -86,8 +104,7 @@ fn updates_end(rt: HostRuntime) -> Result<(), Fail> {
     ];
     for (name, small, script, printed) in rows {
         let module = file(rt.alloc(), &small)?;
-        let files: [(&str, &[u8]); 2] = [("m", &module), ("s", script)];
-        run(&rt, &(name, &["wants", "m", "s"], &files, 0, printed, b""))?;
+        wants(&rt, name, &module, script, (0, printed, b""))?;
     }
     Ok(())
 }
@@ -104,8 +121,7 @@ fn scripts_are_refused(rt: HostRuntime) -> Result<(), Fail> {
         ),
     ];
     for (name, script, reported) in rows {
-        let files: [(&str, &[u8]); 2] = [("m", &module), ("s", script)];
-        run(&rt, &(name, &["wants", "m", "s"], &files, 3, b"", reported))?;
+        wants(&rt, name, &module, script, (3, b"", reported))?;
     }
     Ok(())
 }
@@ -128,16 +144,7 @@ fn long_scripts_are_refused(rt: HostRuntime) -> Result<(), Fail> {
     for (name, blanks, status, printed, reported) in rows {
         let mut script = vec![in alloc; b' '; blanks]?;
         script.extend_from_slice(b"cpu f")?;
-        let files: [(&str, &[u8]); 2] = [("m", &module), ("s", &script)];
-        let row: Row<'_> = (
-            name,
-            &["wants", "m", "s"],
-            &files,
-            status,
-            printed,
-            reported,
-        );
-        run(&rt, &row)?;
+        wants(&rt, name, &module, &script, (status, printed, reported))?;
     }
     Ok(())
 }
