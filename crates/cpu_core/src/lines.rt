@@ -15,7 +15,8 @@ use x64_subset::{FaultKind, Insn, Life, Mark};
 pub fn put_pass(line: &mut Line, cpu: u8, at: u64, insn: &Insn)
     requires known { cpu ≤ 15 }
     requires room { array_vec_len line.old + 42 ≤ 96 }
-    ensures { line.new.items ≡ line.old.items ++ pass_line cpu at insn.now }
+    ensures added { line.new.items ≡ line.old.items ++ pass_line cpu at insn.now }
+    ensures short { length line.new.items ≤ length line.old.items + 42 }
 {
     put_cpu(line, cpu);
     put_text(line, b" ");
@@ -69,7 +70,8 @@ fn put_to(line: &mut Line, word: &[u8], target: u64)
 pub fn put_mark(line: &mut Line, cpu: u8, mark: Mark, life: Life)
     requires known { cpu ≤ 15 }
     requires room { array_vec_len line.old + 21 ≤ 96 }
-    ensures { line.new.items ≡ line.old.items ++ mark_line cpu mark life }
+    ensures added { line.new.items ≡ line.old.items ++ mark_line cpu mark life }
+    ensures short { length line.new.items ≤ length line.old.items + 21 }
 {
     match mark {
         Mark::None => {}
@@ -83,7 +85,8 @@ pub fn put_mark(line: &mut Line, cpu: u8, mark: Mark, life: Life)
 fn put_out(line: &mut Line, cpu: u8, port: u8, value: u8)
     requires known { cpu ≤ 15 }
     requires room { array_vec_len line.old + 21 ≤ 96 }
-    ensures { line.new.items ≡ line.old.items ++ out_line cpu port value }
+    ensures added { line.new.items ≡ line.old.items ++ out_line cpu port value }
+    ensures short { length line.new.items ≤ length line.old.items + 21 }
 {
     put_cpu(line, cpu);
     put_text(line, b" out ");
@@ -99,7 +102,8 @@ fn put_out(line: &mut Line, cpu: u8, port: u8, value: u8)
 pub fn put_stop(line: &mut Line, cpu: u8, life: Life)
     requires known { cpu ≤ 15 }
     requires room { array_vec_len line.old + 21 ≤ 96 }
-    ensures { line.new.items ≡ line.old.items ++ stop_line cpu life }
+    ensures added { line.new.items ≡ line.old.items ++ stop_line cpu life }
+    ensures short { length line.new.items ≤ length line.old.items + 21 }
 {
     match life {
         Life::Running => {}
@@ -127,7 +131,8 @@ fn put_end(line: &mut Line, cpu: u8, words: &[u8])
     requires known { cpu ≤ 15 }
     requires words { length words.now ≤ 17 }
     requires room { array_vec_len line.old + 21 ≤ 96 }
-    ensures { line.new.items ≡ line.old.items ++ (decimal cpu ++ words.now ++ 10 ∷ []) }
+    ensures added { line.new.items ≡ line.old.items ++ (decimal cpu ++ words.now ++ 10 ∷ []) }
+    ensures short { length line.new.items ≤ length line.old.items + 20 }
 {
     put_cpu(line, cpu);
     put_text(line, words);

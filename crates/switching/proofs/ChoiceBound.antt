@@ -231,7 +231,7 @@ steps_bound turns_used (Run turns ∷ rest) = (turns - turns_used) + steps_bound
 steps_bound turns_used (Drop place ∷ rest) = 17 + steps_bound 0 rest
 
 -- a sum over a step and those after it
-sum_more : (f : ScriptStep → ℕ) (step : ScriptStep) (rest : List ScriptStep) → sum (map f (step ∷ rest)) ≡ f step + sum (map f rest)
+pub sum_more : (f : ScriptStep → ℕ) (step : ScriptStep) (rest : List ScriptStep) → sum (map f (step ∷ rest)) ≡ f step + sum (map f rest)
 sum_more f step rest =
     sum-map f (step ∷ rest) ∙ sum_by-cons f step rest ∙ ap (λ (n : ℕ). f step + n) (sym (sum-map f rest))
 

@@ -170,7 +170,7 @@ one_of : (site : Option Site) (old new : Option Form) → length (change_of site
 one_of None old new = omega arith
 one_of (Some s) old new = one_between s.at old new
 
-changes_few : (m : Module) (old new : States) → length (changes m old new) ≤ length m.sites
+pub changes_few : (m : Module) (old new : States) → length (changes m old new) ≤ length m.sites
 changes_few m old new =
     each_one (change_at m old new) 0 (length m.sites) (λ i. one_of (slice_get m.sites i) (wants m old i) (wants m new i))
 

@@ -44,3 +44,4 @@ pub mod ChoiceSteady
 pub mod ChoiceLowers
 pub mod ChoiceEnd
 pub mod ChoiceRuns
+pub mod Ready

@@ -45,7 +45,7 @@ pub record IsWriteDue (r : ℕ) (chunk : List Change) (todo : List Write) (at by
   pub byte_is : write.byte ≡ byte
   pub left_is : left_of r chunk todo ≡ Puts write ∷ left_of r chunk more
 
-write_due : (r : ℕ) (chunk : List Change) (todo : List Write) (requested : Bool) (at byte : ℕ) → due_at (left_of r chunk todo) requested ≡ due.Write at byte → IsWriteDue r chunk todo at byte
+pub write_due : (r : ℕ) (chunk : List Change) (todo : List Write) (requested : Bool) (at byte : ℕ) → due_at (left_of r chunk todo) requested ≡ due.Write at byte → IsWriteDue r chunk todo at byte
 write_due zero chunk [] requested at byte e = absurd (not_write requested at byte e)
 write_due (suc zero) chunk [] requested at byte e = absurd (not_write requested at byte e)
 write_due (suc (suc zero)) chunk [] requested at byte e = absurd (not_write requested at byte e)

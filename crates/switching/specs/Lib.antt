@@ -9,3 +9,4 @@ pub mod Table
 pub mod Laws
 pub mod Choice
 pub mod ChoiceLaws
+pub mod StateLaws

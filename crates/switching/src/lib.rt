@@ -4,3 +4,4 @@
 
 pub mod choice_laws;
 pub mod laws;
+pub mod state_laws;

@@ -1,0 +1,13 @@
+pub mod Fronts
+pub mod Pasts
+pub mod HeldBytes
+pub mod Reaching
+pub mod Texts
+pub mod Used
+pub mod Turning
+pub mod Updates
+pub mod Few
+pub mod First
+pub mod Acting
+pub mod WorldFacts
+pub mod Done
