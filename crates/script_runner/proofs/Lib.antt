@@ -11,3 +11,4 @@ pub mod First
 pub mod Acting
 pub mod WorldFacts
 pub mod Done
+pub mod Looks

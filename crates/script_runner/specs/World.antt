@@ -1,5 +1,5 @@
 -- What a contract sees of a running machine, and which states of the byte machine it stands for.
-use Rattle.std.specs.Prelude.{◌≡◌, ◌≤◌, ℕ, min, List, drop, length, map, IfSome}
+use Rattle.std.specs.Prelude.{◌≡◌, ◌≤◌, ℕ, min, List, [], drop, length, map, IfSome}
 use Rattle.cpu_core.specs.Turn.{CpuState}
 use Rattle.module_image.specs.Module.{Module, States}
 use Rattle.poke_batch.specs.Walk.{BatchState}
@@ -82,3 +82,14 @@ pub record Does (old : WorldSeen) (e : Event) (new : WorldSeen) (text : List ℕ
   pub stands : (s : State) → StandsFor old s → StandsFor new (next old.image s e)
   pub text_is : (s : State) → StandsFor old s → text ≡ trace_text (said old.image s e)
   pub acted_is : (s : State) → StandsFor old s → operations_of acted ≡ operations old.image (said old.image s e)
+
+-- an event may not come, and nothing was done
+pub record MayNot (old : WorldSeen) (e : Event) (new : WorldSeen) (text : List ℕ) : Type 0 where
+  pub not : (s : State) → StandsFor old s → May old.image s e → ⊥
+  pub same : new ≡ old
+  pub none : text ≡ []
+
+-- an event may come, and was done
+pub record Acts (old : WorldSeen) (e : Event) (new : WorldSeen) (text : List ℕ) (acted : Acted) : Type 0 where
+  pub may : MayCome old e
+  pub does : Does old e new text acted

@@ -3,7 +3,9 @@ ghost use Rattle.std.specs.Prelude.{◌≡◌, ◌≤◌, IfOk, None, length, ma
 ghost use Rattle.cpu_core.specs.Turn.{new_cpu};
 ghost use Rattle.module_image.specs.Held.{first_states};
 
+mod acts;
 mod events;
+mod looks;
 
 use crate::progress::Progress;
 use crate::updater::Updater;
