@@ -12,3 +12,4 @@ pub mod Acting
 pub mod WorldFacts
 pub mod Done
 pub mod Looks
+pub mod Picked

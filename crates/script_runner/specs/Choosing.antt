@@ -1,13 +1,18 @@
 -- How a running machine chooses its next event.
-use Rattle.std.specs.Prelude.{◌≡◌, ℕ, min, Option, Some, None}
+use Rattle.std.specs.Prelude.{◌≡◌, ◌&&◌, ℕ, min, not, if◌then◌else◌, List, [], ◌∷◌, ◌++◌, length, slice_get, Option, Some, None}
+use Rattle.std.specs.List.{flat_map, range_with_len}
+use Rattle.cpu_core.specs.Turn.{CpuState, kind_of}
 use Rattle.module_image.specs.Module.{Module}
+use Rattle.poke_batch.specs.Walk.{Walk, due_of, has_taken}
 use Rattle.run_journal.specs.declared.event.Event.{Event}
 use Rattle.run_journal.specs.declared.event.Event.TheVariants.{Begin, Write, Request, Take, Return, Plain, Handle, Tick}
-use Rattle.switching.specs.Choice.{Choice, Chooser, Comes, Fetches, Takes, most_idle, words_after}
+use Rattle.script_text.specs.declared.script.ScriptStep.{ScriptStep}
+use Rattle.switching.specs.Choice.{Choice, Chooser, Comes, Fetches, Takes, due_choices, handler_by, is_wait, most_idle, turn_of, words_after}
 use Rattle.switching.specs.Journal.{IsFinished}
+use Rattle.switching.specs.May.{has_turns, is_begun_next}
 use Rattle.script_runner.specs.declared.pick.Pick.{Pick}
 use Rattle.script_runner.specs.declared.pick.Pick.TheVariants as pick
-use Rattle.script_runner.specs.World.{WorldSeen, StandsFor}
+use Rattle.script_runner.specs.World.{WorldSeen, StandsFor, left}
 
 -- it stands for a machine that chooses, with words in this state
 pub record Chooses (w : WorldSeen) (words : ℕ) (ch : Chooser) : Type 0 where
@@ -38,3 +43,47 @@ choice_of (pick.Plain cpu) = Comes (Plain cpu)
 choice_of (pick.Fetch cpu) = Fetches cpu
 choice_of (pick.Handle cpu) = Comes (Handle cpu)
 choice_of (pick.Tick cpu) = Comes (Tick cpu)
+
+abbrev pub chosen_of : Option Pick → List Choice
+chosen_of None = []
+chosen_of (Some p) = choice_of p ∷ []
+
+-- the choices as the machine finds them: the patch's event; of a processor its taking, its turn, and its handler
+abbrev pub patch_by : Option Walk → List ScriptStep → List Choice
+patch_by None steps = if is_begun_next steps then Comes Begin ∷ [] else []
+patch_by (Some walk) steps = due_choices (due_of (Some walk))
+
+abbrev pub patch_found : WorldSeen → List Choice
+patch_found w = patch_by w.batch.update (left w)
+
+abbrev pub taking_found : WorldSeen → ℕ → CpuState → List Choice
+taking_found w c x =
+    if is_wait (due_of w.batch.update) && (not x.trapped && not (has_taken w.batch.update c)) then Comes (Take c) ∷ [] else []
+
+abbrev pub turn_found : WorldSeen → ℕ → CpuState → List Choice
+turn_found w c x = if has_turns w.batch.update (left w) then turn_of c (kind_of w.image x) ∷ [] else []
+
+abbrev pub handler_at : Option Walk → Module → ℕ → CpuState → List Choice
+handler_at None m c x = []
+handler_at (Some walk) m c x = handler_by c (kind_of m x)
+
+abbrev pub handler_found : WorldSeen → ℕ → CpuState → List Choice
+handler_found w c x = handler_at w.batch.update w.image c x
+
+-- of each processor, by its number, ascending
+abbrev pub of_found : Option CpuState → (CpuState → List Choice) → List Choice
+of_found None f = []
+of_found (Some x) f = f x
+
+abbrev pub by_number : WorldSeen → (ℕ → CpuState → List Choice) → ℕ → List Choice
+by_number w f c = of_found (slice_get w.cpus c) (f c)
+
+abbrev pub by_processor : WorldSeen → (ℕ → CpuState → List Choice) → List Choice
+by_processor w f = flat_map (by_number w f) (range_with_len 0 (length w.cpus))
+
+-- all that may come, and what is forced
+abbrev pub choices_found : WorldSeen → List Choice
+choices_found w = patch_found w ++ by_processor w (λ c x. taking_found w c x ++ turn_found w c x)
+
+abbrev pub forced_found : WorldSeen → List Choice
+forced_found w = (patch_found w ++ by_processor w (taking_found w)) ++ by_processor w (handler_found w)

@@ -4,6 +4,7 @@ ghost use Rattle.cpu_core.specs.Turn.{new_cpu};
 ghost use Rattle.module_image.specs.Held.{first_states};
 
 mod acts;
+mod choosing;
 mod events;
 mod looks;
 
