@@ -4,3 +4,7 @@ pub mod Instructions
 pub mod Units
 pub mod Blocks
 pub mod Chains
+pub mod EntryLists
+pub mod SiteOrder
+pub mod KeyLists
+pub mod MadeSites
