@@ -33,10 +33,13 @@ abbrev pub pieces_from : ℕ → ℕ → ℕ → List Piece
 pieces_from zero i at = end_pieces at
 pieces_from (suc left) i at = block_pieces (block_of i) i at ++ pieces_from left (i + 1) (at + block_len (block_of i))
 
-abbrev pub pieces_of : ℕ → List Piece
-pieces_of n =
+abbrev pub head_pieces : List Piece
+head_pieces =
     plain 0x401000 3 (AluImm Add 6 1) ∷ plain 0x401003 1 Ret ∷ plain 0x401004 3 (AluImm Add 7 1) ∷ plain 0x401007 1 Ret
-    ∷ plain 0x401008 3 (AluImm Add 3 1) ∷ plain 0x40100b 1 Ret ∷ plain 0x40100c 5 (MovImm 1 3) ∷ pieces_from n 0 0x401011
+    ∷ plain 0x401008 3 (AluImm Add 3 1) ∷ plain 0x40100b 1 Ret ∷ plain 0x40100c 5 (MovImm 1 3) ∷ []
+
+abbrev pub pieces_of : ℕ → List Piece
+pieces_of n = head_pieces ++ pieces_from n 0 0x401011
 
 -- a site beside a block: before it, after it, or its own
 abbrev pub IsBeside : ℕ → ℕ → Site → Site → Type 0

@@ -8,3 +8,4 @@ pub mod EntryLists
 pub mod SiteOrder
 pub mod KeyLists
 pub mod MadeSites
+pub mod Targets
