@@ -9,3 +9,5 @@ pub mod SiteOrder
 pub mod KeyLists
 pub mod MadeSites
 pub mod Targets
+pub mod FileTables
+pub mod FileSections
