@@ -11,3 +11,5 @@ pub mod MadeSites
 pub mod Targets
 pub mod FileTables
 pub mod FileSections
+pub mod FileKeys
+pub mod FileNames
