@@ -99,7 +99,7 @@ each-standing listed table P base file has (suc left) i at st =
     each-append P (listed (block_of i) i at) (listed_from listed left (i + 1) later) (table P (block_of i) i at (has left i at st)) (each-standing listed table P base file has left (i + 1) later (stands-next base file left i at st))
 
 -- none begins before the first block
-entry-after : (b : Block) (i at : ℕ) → at ≤ (block_entry b i at).at
+pub entry-after : (b : Block) (i at : ℕ) → at ≤ (block_entry b i at).at
 entry-after FarSwitch i at = omega arith
 entry-after NearSwitch i at = omega arith
 entry-after CallBlock i at = omega arith

@@ -13,3 +13,4 @@ pub mod FileTables
 pub mod FileSections
 pub mod FileKeys
 pub mod FileNames
+pub mod Accepting
