@@ -37,7 +37,9 @@ use Rattle.module_image.proofs.SiteLaws.{few_sites, sites_apart_passed}
 use Rattle.module_image.proofs.Sound.{call_lens_passed, inside_passed}
 use Rattle.module_image.proofs.TextLength.{length_text}
 use Rattle.module_image.proofs.WrittenSites.{sites_kept}
-use Rattle.generated_module.specs.Accepted.{elf_of}
+use Rattle.elf_build.proofs.Generates.{generated-fits}
+use Rattle.written_module.proofs.ReadBack.{reads-back}
+use Rattle.generated_module.specs.Accepted.{GeneratedAreAccepted, elf_of}
 use Rattle.generated_module.proofs.Each.{Each, each-append, each-at, each-map, each-more, none-each}
 use Rattle.generated_module.proofs.Pieces.{Among, Chain, Piece, PieceAt, ends, known, piece-at, starts}
 use Rattle.generated_module.proofs.Units.{AllOff, IsWritten}
@@ -297,3 +299,7 @@ module _ (n : ℕ) (few : 10 ≤ n) (many : n ≤ 1000) (plan : Plan) (made : Is
 
   pub passes-all : Passes elf past_all
   passes-all = record { none = refuted }
+
+-- the plan fits, so its file reads back
+pub accepted : GeneratedAreAccepted
+accepted n plan few many made = passes-all n few many plan made (reads-back plan (generated-fits n plan many made))

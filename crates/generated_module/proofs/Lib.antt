@@ -14,3 +14,4 @@ pub mod FileSections
 pub mod FileKeys
 pub mod FileNames
 pub mod Accepting
+pub mod BenchScripts

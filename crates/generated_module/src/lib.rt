@@ -1,5 +1,6 @@
-//! Laws.
+//! What is known of the modules that are generated: that they are accepted, and what a fixed script says in them.
 #![tactic(auto)]
 
-/// Nothing.
-pub fn nothing() {}
+pub mod laws;
+
+pub use laws::{bench_scripts_are_read, generated_are_accepted};
