@@ -1,5 +1,6 @@
 -- No condition of a refusal holds of the file that is written of a generated module's plan.
 use Rattle.std.proofs.Common.{◌≡◌, ◌≢◌, ◌<◌, ◌≤◌, ◌+◌, ◌-◌, ◌*◌, ◌%◌, ◌^◌, ◌∙◌, ◌⊎◌, ◌++◌, inl, inr, ℕ, zero, suc, true, false, List, [], ◌∷◌, length, map, drop, slice_get, Option, Some, None, refl, sym, ap, subst, arith, true≢false}
+use Rattle.std.specs.List.{AllByRecursion as Each}
 use Rattle.std.proofs.lemmas.List.{length-append, map-append}
 use Rattle.std.proofs.lemmas.Option.{none-some}
 use Rattle.elf_module.specs.Elf.{Elf, SectionRecord}
@@ -9,7 +10,7 @@ use Rattle.elf_build.specs.declared.plan.Plan.{Plan}
 use Rattle.elf_build.specs.declared.plan.PlanFunction.{PlanFunction}
 use Rattle.elf_build.specs.declared.sections.Part.TheVariants.{Text}
 use Rattle.elf_build.specs.File.{file_of}
-use Rattle.elf_build.specs.Generated.{IsGenerated, block_bytes, block_len, block_of, functions_of, text_from, text_of}
+use Rattle.elf_build.specs.Generated.{IsGenerated, block_bytes, block_len, block_of, blocks, functions_of, text_from, text_of}
 use Rattle.site_tables.specs.declared.entries.TableKind.{TableKind}
 use Rattle.site_tables.specs.declared.entries.TableKind.TheVariants.{Jump as JumpTable, Call as CallTable, Trace as TraceTable}
 use Rattle.site_tables.specs.Found.{IsFirstBadTable}
@@ -40,7 +41,7 @@ use Rattle.module_image.proofs.WrittenSites.{sites_kept}
 use Rattle.elf_build.proofs.Generates.{generated-fits}
 use Rattle.written_module.proofs.ReadBack.{reads-back}
 use Rattle.generated_module.specs.Accepted.{GeneratedAreAccepted, elf_of}
-use Rattle.generated_module.proofs.Each.{Each, each-append, each-at, each-map, each-more, none-each}
+use Rattle.generated_module.proofs.Each.{each-append, each-at, each-map, each-more, none-each}
 use Rattle.generated_module.proofs.Pieces.{Among, Chain, Piece, PieceAt, ends, known, piece-at, starts}
 use Rattle.generated_module.proofs.Units.{AllOff, IsWritten}
 use Rattle.generated_module.proofs.Blocks.{Stands, length-block, made-own, made_from}
@@ -48,7 +49,7 @@ use Rattle.generated_module.proofs.Chains.{chain-of, pieces_of}
 use Rattle.generated_module.proofs.EntryLists.{block_calls, block_entry, block_jumps, block_traces, call-table, calls_from, each-standing, entries_from, entry-after, jump-table, jumps_from, trace-table, traces_from}
 use Rattle.generated_module.proofs.FileKeys.{call-addresses, good-states, jump-addresses, keys-are, keys-inside, made_keys}
 use Rattle.generated_module.proofs.FileNames.{functions-are, named, tracer-is}
-use Rattle.generated_module.proofs.FileSections.{base-is, entries-are, file-text-is, one-text, text-found, whole-tables}
+use Rattle.generated_module.proofs.FileSections.{base-is, entries-are, file-text-is, one-text, text-is, whole-tables}
 use Rattle.generated_module.proofs.KeyLists.{all_entries, call_keys, jump_keys}
 use Rattle.generated_module.proofs.MadeSites.{good-length, room-inside, sites-are}
 use Rattle.generated_module.proofs.SiteOrder.{in-order}
@@ -75,10 +76,10 @@ text-most (suc left) i at =
     omega (arith, one, most, sum, later)
 
 -- the blocks stand after the functions
-pub first-stands : (n : ℕ) → n ≤ 1000 → Stands 0x401000 (text_of n) n 0 0x401011
+pub first-stands : (n : ℕ) → n ≤ 1000 → Stands 0x401000 (text_of n) n 0 blocks
 first-stands n many =
-    let most = text-most n 0 0x401011 in
-    let sum : length (text_of n) ≡ 17 + length (text_from n 0 0x401011) = omega arith in
+    let most = text-most n 0 blocks in
+    let sum : length (text_of n) ≡ 17 + length (text_from n 0 blocks) = omega arith in
     record { from = omega arith; start = omega arith; bytes = refl; whole = omega (arith, sum); small = omega (arith, most, sum, many) }
 
 -- ---- the sites and the layout
@@ -87,10 +88,10 @@ module _ (n : ℕ) (few : 10 ≤ n) (many : n ≤ 1000) (plan : Plan) (made : Is
   abbrev elf : Elf
   elf = elf_of (file_of plan)
 
-  stands : Stands 0x401000 (text_of n) n 0 0x401011
+  stands : Stands 0x401000 (text_of n) n 0 blocks
   stands = first-stands n many
 
-  pub found-sites : sites elf ≡ made_from n 0 0x401011
+  pub found-sites : sites elf ≡ made_from n 0 blocks
   found-sites =
       let base_is = base-is n plan made back in
       let text_is = file-text-is n plan made back in
@@ -98,20 +99,20 @@ module _ (n : ℕ) (few : 10 ≤ n) (many : n ≤ 1000) (plan : Plan) (made : Is
       let call_is = call-addresses n few plan made back in
       let list_is = entries-are n plan made back in
       let f : Entry → Site = site_of 0x401000 (text_of n) jump_keys call_keys in
-      let js = jumps_from n 0 0x401011 in
-      let cs = calls_from n 0 0x401011 in
-      let ts = traces_from n 0 0x401011 in
+      let js = jumps_from n 0 blocks in
+      let cs = calls_from n 0 blocks in
+      let ts = traces_from n 0 blocks in
       (λ i. ascending (map (site_of (base_is i) (text_is i) (jump_is i) (call_is i)) (list_is i)))
       ∙ ap ascending (map-append f js (cs ++ ts) ∙ ap (λ (ss : List Site). map f js ++ ss) (map-append f cs ts))
-      ∙ in-order 0x401000 (text_of n) jump_keys call_keys n 0 0x401011
-      ∙ sites-are 0x401000 (text_of n) n 0 0x401011 stands
+      ∙ in-order 0x401000 (text_of n) jump_keys call_keys n 0 blocks
+      ∙ sites-are 0x401000 (text_of n) n 0 blocks stands
 
   -- ---- the conditions on tables, entries and sites
 
   bad-text : (size : ℕ) → IsBadText (text_section elf) size → ⊥
   bad-text size bad =
       let there : HasBadSize (section_of_part plan 1 Text) × (size ≡ length plan.text.items) =
-      subst (λ (o : Option SectionRecord). IsBadText o size) (text-found n plan made back) bad in
+      subst (λ (o : Option SectionRecord). IsBadText o size) (text-is n plan made back) bad in
       let same : length plan.text.items ≡ length (text_of n) = ap (λ (bytes : List ℕ). length bytes) made.text in
       let whole = stands.whole in
       let small = stands.small in
@@ -132,14 +133,14 @@ module _ (n : ℕ) (few : 10 ≤ n) (many : n ≤ 1000) (plan : Plan) (made : Is
   count-is : length (entries elf) ≡ n
   count-is =
       sym (few_sites (site_of (base elf) (file_text elf) (key_addresses elf JumpKey) (key_addresses elf CallKey)) (entries elf))
-      ∙ ap (λ (ss : List Site). length ss) found-sites ∙ length-made n 0 0x401011
+      ∙ ap (λ (ss : List Site). length ss) found-sites ∙ length-made n 0 blocks
 
   each-entry : (P : Entry → Type 0) → ((left i at : ℕ) → Stands 0x401000 (text_of n) (suc left) i at → P (block_entry (block_of i) i at)) → Each P (entries elf)
   each-entry P has =
-      let js = jumps_from n 0 0x401011 in
-      let cs = calls_from n 0 0x401011 in
-      let ts = traces_from n 0 0x401011 in
-      let all = each-append P js (cs ++ ts) (each-standing block_jumps jump-table P 0x401000 (text_of n) has n 0 0x401011 stands) (each-append P cs ts (each-standing block_calls call-table P 0x401000 (text_of n) has n 0 0x401011 stands) (each-standing block_traces trace-table P 0x401000 (text_of n) has n 0 0x401011 stands)) in
+      let js = jumps_from n 0 blocks in
+      let cs = calls_from n 0 blocks in
+      let ts = traces_from n 0 blocks in
+      let all = each-append P js (cs ++ ts) (each-standing block_jumps jump-table P 0x401000 (text_of n) has n 0 blocks stands) (each-append P cs ts (each-standing block_calls call-table P 0x401000 (text_of n) has n 0 blocks stands) (each-standing block_traces trace-table P 0x401000 (text_of n) has n 0 blocks stands)) in
       subst (Each P) (sym (entries-are n plan made back)) all
 
   none-outside : HasNone (IsOutside elf) (entries elf)
@@ -162,7 +163,7 @@ module _ (n : ℕ) (few : 10 ≤ n) (many : n ≤ 1000) (plan : Plan) (made : Is
       none-each (HasBadLength elf) (entries elf) (each-more (P 0x401000 (text_of n)) (P (base elf) (file_text elf)) (entries elf) (λ e not bad. not (subst (λ (at : ℕ). IsBadLength (length_at at (text_of n) e.at) e.kind) base_is (subst (λ (bytes : List ℕ). IsBadLength (length_at (base elf) bytes e.at) e.kind) text_is bad))) each)
 
   no-overlaps : overlap_after 0 (sites elf) ≡ None
-  no-overlaps = ap (overlap_after 0) found-sites ∙ no-overlap n 0 0x401011 0 (omega arith)
+  no-overlaps = ap (overlap_after 0) found-sites ∙ no-overlap n 0 blocks 0 (omega arith)
 
   -- no condition up to that on overlaps
   early : (why : Refused) → order why < past_site_overlap → Holds elf why → ⊥
@@ -181,7 +182,7 @@ module _ (n : ℕ) (few : 10 ≤ n) (many : n ≤ 1000) (plan : Plan) (made : Is
   -- ---- the text
 
   abbrev swept : Layout
-  swept = laid 0x401000 (text elf) (made_from n 0 0x401011)
+  swept = laid 0x401000 (text elf) (made_from n 0 blocks)
 
   layout-is : layout elf ≡ swept
   layout-is = (let base_is = base-is n plan made back in let sites_are = found-sites in λ i. laid (base_is i) (text elf) (sites_are i))
@@ -197,7 +198,7 @@ module _ (n : ℕ) (few : 10 ≤ n) (many : n ≤ 1000) (plan : Plan) (made : Is
         inside = subst (λ (size : ℕ). AreInside (base elf) size (sites elf)) (sym same) inside;
         apart = sites_apart_passed elf early-passes;
         own = subst (λ (ss : List Site). (i : ℕ) (s : Site) → slice_get ss i ≡ Some s → s.foreign ≡ false) (sym found-sites)
-        (λ i s get. each-at (λ (s : Site). s.foreign ≡ false) (made_from n 0 0x401011) i s (made-own n 0 0x401011) get);
+        (λ i s get. each-at (λ (s : Site). s.foreign ≡ false) (made_from n 0 blocks) i s (made-own n 0 blocks) get);
       }
 
   written-text : IsWritten swept (text_of n)
@@ -277,7 +278,7 @@ module _ (n : ℕ) (few : 10 ≤ n) (many : n ≤ 1000) (plan : Plan) (made : Is
 
   none-far : HasNone IsOutOfReach (sites elf)
   none-far =
-      subst (λ (ss : List Site). HasNone IsOutOfReach ss) (sym found-sites) (none-each IsOutOfReach (made_from n 0 0x401011) (all-reach 0x401000 (text_of n) n 0 0x401011 stands))
+      subst (λ (ss : List Site). HasNone IsOutOfReach ss) (sym found-sites) (none-each IsOutOfReach (made_from n 0 blocks) (all-reach 0x401000 (text_of n) n 0 blocks stands))
 
   refuted : (why : Refused) → order why < past_all → Holds elf why → ⊥
   refuted (KeyOutside at) before holds = none_first (IsKeyOutside elf) (keys elf) holds.0 none-unloaded holds.1

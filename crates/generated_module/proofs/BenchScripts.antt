@@ -1,5 +1,6 @@
 -- The script of a bench is read, line by line, in a module whose names stand for what they do in a generated one.
 use Rattle.std.proofs.Common.{◌≡◌, ◌≤◌, ◌+◌, ◌∙◌, ℕ, true, false, List, [], ◌∷◌, take, codes, Some, Result, Ok, refl, ap}
+use Rattle.std.specs.List.{AllByRecursion as Each}
 use Rattle.poke_base.specs.Text.{words}
 use Rattle.elf_build.proofs.Generates.{generated-fits}
 use Rattle.elf_build.specs.declared.plan.Plan.{Plan}
@@ -16,7 +17,6 @@ use Rattle.script_text.specs.declared.script.ScriptStep.TheVariants.{Run, Update
 use Rattle.script_text.specs.Script.{ScriptValue, empty_script, go_on, read_from, script, taken}
 use Rattle.generated_module.specs.Accepted.{elf_of}
 use Rattle.generated_module.specs.Bench.{BenchScriptsAreRead, bench_script, bench_steps, bench_value}
-use Rattle.generated_module.proofs.Each.{Each}
 use Rattle.generated_module.proofs.Accepting.{first-stands}
 use Rattle.generated_module.proofs.FileNames.{call-names, functions-are, functions-below, jump-names}
 

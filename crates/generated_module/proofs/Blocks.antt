@@ -1,13 +1,13 @@
 -- The blocks of a generated module: their sites, and where they stand in the text.
 use Rattle.std.proofs.Common.{◌≡◌, ◌<◌, ◌≤◌, ◌+◌, ◌-◌, ◌/◌, ◌%◌, ◌==◌, ◌∙◌, ◌++◌, ℕ, zero, suc, false, List, [], ◌∷◌, length, drop, refl, sym, ap, arith}
+use Rattle.std.specs.List.{AllByRecursion as Each}
 use Rattle.std.proofs.lemmas.List.{drop-drop, length-append}
 use Rattle.std.proofs.Math.Seq.{drop-append_seam}
 use Rattle.elf_build.specs.declared.generation.Block.{Block}
 use Rattle.elf_build.specs.declared.generation.Block.TheVariants.{FarSwitch, NearSwitch, Call as CallBlock, Trace as TraceBlock, TailCall}
-use Rattle.elf_build.specs.Generated.{block_bytes, block_len, block_of, text_from}
+use Rattle.elf_build.specs.Generated.{block_bytes, block_len, block_of, blocks, text_from}
 use Rattle.module_image.specs.declared.site.Site.{Site}
 use Rattle.module_image.specs.declared.site.SiteKind.TheVariants.{Jump, Call, Tail, Trace}
-use Rattle.generated_module.proofs.Each.{Each}
 
 -- the site of a block, as the module has it
 abbrev pub block_made : Block → ℕ → ℕ → Site
@@ -72,7 +72,7 @@ drop-further base at n file front rest low bytes same =
 -- the blocks that are left stand at an address of a text, up to its end
 pub record Stands (base : ℕ) (file : List ℕ) (left i at : ℕ) : Type 0 where
   pub from : base ≤ at
-  pub start : 0x401011 ≤ at
+  pub start : blocks ≤ at
   pub bytes : drop (at - base) file ≡ text_from left i at
   pub whole : at + length (text_from left i at) ≡ base + length file
   pub small : base + length file ≤ 0x410000

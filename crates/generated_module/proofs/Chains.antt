@@ -1,16 +1,17 @@
 -- What a generated text is made of, from its first address to its end.
 use Rattle.std.proofs.Common.{◌≡◌, ◌<◌, ◌≤◌, ◌+◌, ◌-◌, ◌^◌, ◌∙◌, ◌⊎◌, ◌++◌, inl, inr, ℕ, zero, suc, true, List, [], ◌∷◌, length, drop, slice_get, Some, refl, sym, ap, subst, arith, append_assoc}
+use Rattle.std.specs.List.{AllByRecursion as Each}
 use Rattle.std.proofs.lemmas.List.{length-append}
 use Rattle.elf_build.specs.declared.generation.Block.{Block}
 use Rattle.elf_build.specs.declared.generation.Block.TheVariants.{FarSwitch, NearSwitch, Call as CallBlock, Trace as TraceBlock, TailCall}
 use Rattle.elf_build.specs.File.{lead}
-use Rattle.elf_build.specs.Generated.{block_bytes, block_len, block_of, end_bytes, text_from, text_of}
+use Rattle.elf_build.specs.Generated.{block_bytes, block_len, block_of, blocks, end_bytes, text_from, text_of}
 use Rattle.x64_subset.specs.declared.insn.AluOp.TheVariants.{Add}
 use Rattle.x64_subset.specs.declared.insn.Insn.TheVariants.{AluImm, Call as CallTo, Dec, Inc, Jcc32, Jmp8, MovImm, Out, Ret}
 use Rattle.module_image.specs.declared.site.Site.{Site}
 use Rattle.module_image.specs.Layout.{Layout, laid, text_end}
 use Rattle.module_image.proofs.WrittenSites.{IsOff}
-use Rattle.generated_module.proofs.Each.{Each, each-append, each-at, each-more}
+use Rattle.generated_module.proofs.Each.{each-append, each-at, each-more}
 use Rattle.generated_module.proofs.Pieces.{Piece, Chain}
 use Rattle.generated_module.proofs.Units.{AllOff, IsWritten, patched, plain, plain-piece, site-piece}
 use Rattle.generated_module.proofs.Blocks.{Stands, block_made, block-within, drop-further, length-block, made_from, made-after, stands-next}
@@ -27,7 +28,7 @@ block_pieces TailCall i at =
 
 abbrev pub end_pieces : ℕ → List Piece
 end_pieces at =
-    plain at 2 (Dec 1) ∷ plain (at + 2) 6 (Jcc32 5 0x401011) ∷ plain (at + 8) 2 (Out 16) ∷ plain (at + 10) 1 Ret ∷ []
+    plain at 2 (Dec 1) ∷ plain (at + 2) 6 (Jcc32 5 blocks) ∷ plain (at + 8) 2 (Out 16) ∷ plain (at + 10) 1 Ret ∷ []
 
 abbrev pub pieces_from : ℕ → ℕ → ℕ → List Piece
 pieces_from zero i at = end_pieces at
@@ -39,7 +40,7 @@ head_pieces =
     ∷ plain 0x401008 3 (AluImm Add 3 1) ∷ plain 0x40100b 1 Ret ∷ plain 0x40100c 5 (MovImm 1 3) ∷ []
 
 abbrev pub pieces_of : ℕ → List Piece
-pieces_of n = head_pieces ++ pieces_from n 0 0x401011
+pieces_of n = head_pieces ++ pieces_from n 0 blocks
 
 -- a site beside a block: before it, after it, or its own
 abbrev pub IsBeside : ℕ → ℕ → Site → Site → Type 0
@@ -91,9 +92,9 @@ block-chain t file is TailCall i at rest ps low short bytes inside beside k here
     )
 
 -- the units after the blocks
-end-chain : (t : Layout) (file : List ℕ) → IsWritten t file → (at : ℕ) → t.base ≤ at → 0x401011 ≤ at → at < 0x410000 → drop (at - t.base) file ≡ end_bytes at → at + 11 ≡ text_end t → Each (λ (s : Site). s.at + s.len ≤ at) t.sites → Chain t at (end_pieces at)
+end-chain : (t : Layout) (file : List ℕ) → IsWritten t file → (at : ℕ) → t.base ≤ at → blocks ≤ at → at < 0x410000 → drop (at - t.base) file ≡ end_bytes at → at + 11 ≡ text_end t → Each (λ (s : Site). s.at + s.len ≤ at) t.sites → Chain t at (end_pieces at)
 end-chain t file is at low start short bytes whole before =
-    let back = lead 4 (at + 8) 0x401011 in
+    let back = lead 4 (at + 8) blocks in
     let off : (from len : ℕ) → at ≤ from → AllOff t from len = λ from len le i s here.
     let ends : s.at + s.len ≤ at = each-at (λ (s : Site). s.at + s.len ≤ at) t.sites i s before here in
     inr (omega (arith, ends, le)) in
@@ -105,7 +106,7 @@ end-chain t file is at low start short bytes whole before =
     plain-piece t file is at 2 (Dec 1) (0xff ∷ 0xc9 ∷ []) (0x0f ∷ 0x85 ∷ (back ++ (0xe6 ∷ 0x10 ∷ 0xc3 ∷ []))) refl low bytes (reads-dec-ecx at) (omega arith) (omega (arith, whole)) (off at 2 (omega arith)),
     (
     refl,
-    plain-piece t file is (at + 2) 6 (Jcc32 5 0x401011) (0x0f ∷ 0x85 ∷ back) (0xe6 ∷ 0x10 ∷ 0xc3 ∷ []) refl (omega (arith, low)) second (reads-back (at + 2) (at + 8) (omega (arith, start)) (omega (arith, short)) (omega arith)) (omega arith) (omega (arith, whole)) (off (at + 2) 6 (omega arith)),
+    plain-piece t file is (at + 2) 6 (Jcc32 5 blocks) (0x0f ∷ 0x85 ∷ back) (0xe6 ∷ 0x10 ∷ 0xc3 ∷ []) refl (omega (arith, low)) second (reads-back (at + 2) (at + 8) (omega (arith, start)) (omega (arith, short)) (omega arith)) (omega arith) (omega (arith, whole)) (off (at + 2) 6 (omega arith)),
     (
     omega arith,
     plain-piece t file is (at + 8) 2 (Out 16) (0xe6 ∷ 0x10 ∷ []) (0xc3 ∷ []) refl (omega (arith, low)) third (reads-out (at + 8)) (omega arith) (omega (arith, whole)) (off (at + 8) 2 (omega arith)),
@@ -171,18 +172,18 @@ chain-from t file is (suc left) i at p =
     block-chain t file is b i at (text_from left (i + 1) later) (pieces_from left (i + 1) later) p.stands.from (omega (arith, whole, small)) p.stands.bytes (omega (arith, whole, same)) (beside t file left i at p) (length p.earlier) here (chain-from t file is left (i + 1) later after)
 
 -- the whole text
-pub chain-of : (n : ℕ) (text : List ℕ) → IsWritten (laid 0x401000 text (made_from n 0 0x401011)) (text_of n) → length (text_of n) ≤ 0xf000 → Chain (laid 0x401000 text (made_from n 0 0x401011)) 0x401000 (pieces_of n)
+pub chain-of : (n : ℕ) (text : List ℕ) → IsWritten (laid 0x401000 text (made_from n 0 blocks)) (text_of n) → length (text_of n) ≤ 0xf000 → Chain (laid 0x401000 text (made_from n 0 blocks)) 0x401000 (pieces_of n)
 chain-of n text is small =
-    let t = laid 0x401000 text (made_from n 0 0x401011) in
+    let t = laid 0x401000 text (made_from n 0 blocks) in
     let file = text_of n in
-    let blocks = text_from n 0 0x401011 in
-    let sum : length file ≡ 17 + length blocks = omega arith in
+    let loop = text_from n 0 blocks in
+    let sum : length file ≡ 17 + length loop = omega arith in
     let same : length text ≡ length file = is.same in
     let room : (len : ℕ) → len ≤ 0x11 → 0x401000 + len ≤ text_end t = λ len le. omega (arith, sum, same, le) in
-    let off : (at len : ℕ) → at + len ≤ 0x401011 → AllOff t at len = λ at len le i s here.
-    let low : 0x401011 ≤ s.at = each-at (λ (s : Site). 0x401011 ≤ s.at) t.sites i s (made-after n 0 0x401011 0x401011 (omega arith)) here in
+    let off : (at len : ℕ) → at + len ≤ blocks → AllOff t at len = λ at len le i s here.
+    let low : blocks ≤ s.at = each-at (λ (s : Site). blocks ≤ s.at) t.sites i s (made-after n 0 blocks blocks (omega arith)) here in
     inl (omega (arith, low, le)) in
-    let placed : IsPlaced t file n 0 0x401011 = record {
+    let placed : IsPlaced t file n 0 blocks = record {
       stands = record { from = omega arith; start = omega arith; bytes = refl; whole = omega (arith, sum); small = omega (arith, small) };
       earlier = [];
       split = refl;
@@ -208,8 +209,8 @@ chain-of n text is small =
     plain-piece t file is 0x40100b 1 Ret (0xc3 ∷ []) (drop 12 file) refl (omega arith) refl (reads-ret 0x40100b) (omega arith) (room 12 (omega arith)) (off 0x40100b 1 (omega arith)),
     (
     refl,
-    plain-piece t file is 0x40100c 5 (MovImm 1 3) (0xb9 ∷ 0x03 ∷ 0x00 ∷ 0x00 ∷ 0x00 ∷ []) blocks refl (omega arith) refl (reads-mov 0x40100c) (omega arith) (room 17 (omega arith)) (off 0x40100c 5 (omega arith)),
-    chain-from t file is n 0 0x401011 placed,
+    plain-piece t file is 0x40100c 5 (MovImm 1 3) (0xb9 ∷ 0x03 ∷ 0x00 ∷ 0x00 ∷ 0x00 ∷ []) loop refl (omega arith) refl (reads-mov 0x40100c) (omega arith) (room 17 (omega arith)) (off 0x40100c 5 (omega arith)),
+    chain-from t file is n 0 blocks placed,
     ),
     ),
     ),

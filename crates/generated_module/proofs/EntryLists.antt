@@ -1,11 +1,12 @@
 -- The entries of a generated module: table by table as the file has them, and block by block.
 use Rattle.std.proofs.Common.{◌≡◌, ◌+◌, ◌*◌, ◌/◌, ◌%◌, ◌==◌, ◌≤◌, ◌∙◌, ◌++◌, ℕ, zero, suc, List, [], ◌∷◌, map, flat_map, refl, ap, arith}
+use Rattle.std.specs.List.{AllByRecursion as Each}
 use Rattle.elf_build.specs.declared.generation.Block.{Block}
 use Rattle.elf_build.specs.declared.generation.Block.TheVariants.{FarSwitch, NearSwitch, Call as CallBlock, Trace as TraceBlock, TailCall}
 use Rattle.elf_build.specs.Generated.{block_len, block_of}
 use Rattle.module_image.specs.declared.entry.Entry.{Entry}
 use Rattle.module_image.specs.declared.entry.EntryKind.TheVariants.{Jump, Call, Tail, Trace}
-use Rattle.generated_module.proofs.Each.{Each, each-append}
+use Rattle.generated_module.proofs.Each.{each-append}
 use Rattle.generated_module.proofs.Blocks.{Stands, stands-next}
 
 -- the entry of a block

@@ -1,5 +1,6 @@
 -- The keys of the file that is written of a generated module's plan.
 use Rattle.std.proofs.Common.{◌≡◌, ◌<◌, ◌≤◌, ◌+◌, ◌*◌, ◌%◌, ◌^◌, ◌∙◌, ◌++◌, ℕ, zero, suc, List, [], ◌∷◌, length, map, codes, slice_get, slice_index, Some, None, refl, sym, ap, subst, arith}
+use Rattle.std.specs.List.{AllByRecursion as Each}
 use Rattle.std.specs.Option.{unwrap_or}
 use Rattle.std.proofs.lemmas.Option.{none-some}
 use Rattle.byteorder.specs.Endian.{little_number}
@@ -17,7 +18,6 @@ use Rattle.module_image.specs.declared.key.KeyClass.TheVariants.{Jump, Call}
 use Rattle.module_image.specs.Keys.{IsUnloaded, gathered, key_addresses, key_of, keys, loaded_after, loaded_number, start_of}
 use Rattle.module_image.specs.Refusals.{HasBadState, IsKeyOutside}
 use Rattle.generated_module.specs.Accepted.{elf_of}
-use Rattle.generated_module.proofs.Each.{Each}
 use Rattle.generated_module.proofs.KeyLists.{call-keys-are, call_keys, jump-keys-are, jump_keys}
 use Rattle.generated_module.proofs.FileSections.{entries-are}
 

@@ -8,7 +8,7 @@ use Rattle.elf_build.specs.declared.plan.PlanSite.TheVariants.{Jump, Call, Trace
 use Rattle.elf_build.specs.declared.sections.Part.TheVariants.{Text, Entries}
 use Rattle.elf_build.specs.declared.tables.PlanTable.TheVariants.{Jumps, Calls, Traces}
 use Rattle.elf_build.specs.File.{entry_bytes, file_of, parts, table_at, table_bytes, table_from}
-use Rattle.elf_build.specs.Generated.{IsGenerated, sites_from, sites_of, text_of}
+use Rattle.elf_build.specs.Generated.{IsGenerated, blocks, sites_from, sites_of, text_of}
 use Rattle.site_tables.specs.declared.entries.CallSite.{CallSite}
 use Rattle.site_tables.specs.declared.entries.JumpEntry.{JumpEntry}
 use Rattle.site_tables.specs.declared.entries.TableKind.{TableKind}
@@ -73,16 +73,13 @@ module _ (n : ℕ) (plan : Plan) (made : IsGenerated n plan) (back : ReadsBack p
   elf = elf_of (file_of plan)
 
   -- the text
-  text-is : text_section elf ≡ Some (section_of_part plan 1 Text)
+  pub text-is : text_section elf ≡ Some (section_of_part plan 1 Text)
   unfolding parts
   text-is = ap (find is_text) back.sections
 
   pub one-text : length (text_sections elf) ≡ 1
   unfolding parts
   one-text = ap (λ (ss : List _). length (filter is_text ss)) back.sections
-
-  pub text-found : text_section elf ≡ Some (section_of_part plan 1 Text)
-  text-found = text-is
 
   pub base-is : base elf ≡ 0x401000
   base-is = ap base_of text-is ∙ made.base
@@ -94,30 +91,27 @@ module _ (n : ℕ) (plan : Plan) (made : IsGenerated n plan) (back : ReadsBack p
   file-text-is = ap bytes_of text-is ∙ made.text
 
   -- the tables
-  table-is : (kind : TableKind) → table_len elf.sections kind % entry_size kind ≡ 0
+  pub whole-tables : (kind : TableKind) → table_len elf.sections kind % entry_size kind ≡ 0
   unfolding parts
-  table-is JumpTable =
+  whole-tables JumpTable =
       ap (λ (ss : List _). length (content_of (table_in ss JumpTable)) % 16) back.sections
       ∙ whole-sixteen (entry_bytes Jumps plan) (jump-size plan) (table_at Jumps plan) plan.sites.items
-  table-is CallTable =
+  whole-tables CallTable =
       ap (λ (ss : List _). length (content_of (table_in ss CallTable)) % 8) back.sections
       ∙ whole-eight (entry_bytes Calls plan) (call-size plan) (table_at Calls plan) plan.sites.items
-  table-is TraceTable =
+  whole-tables TraceTable =
       ap (λ (ss : List _). length (content_of (table_in ss TraceTable)) % 8) back.sections
       ∙ whole-eight (entry_bytes Traces plan) (trace-size plan) (table_at Traces plan) plan.sites.items
 
-  pub whole-tables : (kind : TableKind) → table_len elf.sections kind % entry_size kind ≡ 0
-  whole-tables = table-is
-
   -- the entries
-  jump-entries : map jump_entry (flat_map (jump_of plan) plan.sites.items) ≡ jumps_from n 0 0x401011
-  jump-entries = ap (λ (ss : List PlanSite). map jump_entry (flat_map (jump_of plan) ss)) made.sites ∙ jumps-are plan made.base n 0 0x401011
+  jump-entries : map jump_entry (flat_map (jump_of plan) plan.sites.items) ≡ jumps_from n 0 blocks
+  jump-entries = ap (λ (ss : List PlanSite). map jump_entry (flat_map (jump_of plan) ss)) made.sites ∙ jumps-are plan made.base n 0 blocks
 
-  call-entries : map call_entry (flat_map (call_of plan) plan.sites.items) ≡ calls_from n 0 0x401011
-  call-entries = ap (λ (ss : List PlanSite). map call_entry (flat_map (call_of plan) ss)) made.sites ∙ calls-are plan made.base n 0 0x401011
+  call-entries : map call_entry (flat_map (call_of plan) plan.sites.items) ≡ calls_from n 0 blocks
+  call-entries = ap (λ (ss : List PlanSite). map call_entry (flat_map (call_of plan) ss)) made.sites ∙ calls-are plan made.base n 0 blocks
 
-  trace-entries : map trace_entry (flat_map trace_of plan.sites.items) ≡ traces_from n 0 0x401011
-  trace-entries = ap (λ (ss : List PlanSite). map trace_entry (flat_map trace_of ss)) made.sites ∙ traces-are n 0 0x401011
+  trace-entries : map trace_entry (flat_map trace_of plan.sites.items) ≡ traces_from n 0 blocks
+  trace-entries = ap (λ (ss : List PlanSite). map trace_entry (flat_map trace_of ss)) made.sites ∙ traces-are n 0 blocks
 
   pub entries-are : entries elf ≡ all_entries n
   entries-are =

@@ -1,8 +1,11 @@
 -- The plain instructions of a generated module are read where they stand.
-use Rattle.std.proofs.Common.{◌≡◌, ◌<◌, ◌≤◌, ◌+◌, ◌-◌, ◌%◌, ◌^◌, ◌∙◌, ◌++◌, ℕ, Bool, cond, List, [], ◌∷◌, Ok, refl, ap, arith}
-use Rattle.std.specs.Int.{w8, w32, from_le_bytes, to_le_bytes}
-use Rattle.std.proofs.lemmas.Bool.{le-ltb}
-use Rattle.insn_forms.specs.Displacement.{leads, sign_extended}
+use Rattle.std.proofs.Common.{◌≡◌, ◌<◌, ◌≤◌, ◌+◌, ◌-◌, ◌%◌, ◌^◌, ◌∙◌, ◌++◌, ℕ, List, [], ◌∷◌, drop, Option, Some, None, Ok, option_map, refl, sym, ap, arith}
+use Rattle.std.specs.Int.{w8, w32, to_le_bytes}
+use Rattle.std.proofs.lemmas.Option.{same_Some}
+use Rattle.insn_forms.specs.Displacement.{displacement, distance, leads}
+use Rattle.insn_forms.proofs.Displacements.{relative}
+use Rattle.module_image.proofs.Distances.{near_displaced}
+use Rattle.elf_build.specs.Generated.{blocks}
 use Rattle.insn_forms.specs.Spelling.{after}
 use Rattle.elf_build.specs.File.{lead}
 use Rattle.x64_subset.specs.declared.insn.AluOp.TheVariants.{Add}
@@ -60,28 +63,24 @@ reads-jump at to low is rest =
     let target : leads w8 (after at 2) (0x05 ∷ []) ≡ to = omega (arith, low, is) in
     ap (λ (to : ℕ). Ok (Jmp8 to, 2)) target
 
--- the low bytes of a number, and what they are in eight
-low_bytes : (n : ℕ) → from_le_bytes w32 (to_le_bytes w32 n) ≡ n % 2 ^ 32
-low_bytes n = omega arith
+-- bytes that are put behind an opcode
+without-opcode : (opcode : ℕ) (o : Option (List ℕ)) (bytes : List ℕ) → option_map (λ (rel : List ℕ). opcode ∷ rel) o ≡ Some (opcode ∷ bytes) → o ≡ Some bytes
+without-opcode opcode None bytes is = cc
+without-opcode opcode (Some rel) bytes is = ap Some (ap (drop 1) (same_Some (opcode ∷ rel) (opcode ∷ bytes) is))
 
-great_extended : (n : ℕ) → 2 ^ 31 ≤ n → sign_extended w32 n ≡ n + (2 ^ 64 - 2 ^ 32)
-great_extended n great = ap (λ (test : Bool). cond test n (n + (2 ^ 64 - 2 ^ 32))) (le-ltb n (2 ^ 31) great)
+-- the displacement between addresses that lie near one another
+near-leads : (from to : ℕ) → from < 2 ^ 32 → to < from → from < to + 2 ^ 31 → leads w32 from (to_le_bytes w32 (to + 2 ^ 64 - from)) ≡ to
+near-leads from to low back near =
+    let far : distance from to ≡ to + 2 ^ 64 - from = omega (arith, low, back) in
+    let displaced = without-opcode 0 (displacement w32 from to) (to_le_bytes w32 (distance from to)) (near_displaced 0 from to (omega (arith, low)) (omega (arith, low, back)) near (omega (arith, back))) in
+    ap (λ (n : ℕ). leads w32 from (to_le_bytes w32 n)) (sym far) ∙ (relative w32 from to (to_le_bytes w32 (distance from to)) displaced).leads_to
 
 -- the jump back to the first block, whose field ends with the instruction
-back-leads : (from far back : ℕ) → from < 2 ^ 32 → from ≡ 0x401011 + back → 0 < back → back < 2 ^ 31 → far ≡ 2 ^ 64 - back → leads w32 from (to_le_bytes w32 far) ≡ 0x401011
-back-leads from far back low is some small away =
-    let bytes : far % 2 ^ 32 ≡ 2 ^ 32 - back = omega (arith, some, small, away) in
-    let number : from_le_bytes w32 (to_le_bytes w32 far) ≡ 2 ^ 32 - back = low_bytes far ∙ bytes in
-    let sum : (from + ((2 ^ 32 - back) + (2 ^ 64 - 2 ^ 32))) % 2 ^ 64 ≡ 0x401011 = omega (arith, low, is, some, small) in
-    ap (λ (n : ℕ). (from + sign_extended w32 n) % 2 ^ 64) number
-    ∙ ap (λ (n : ℕ). (from + n) % 2 ^ 64) (great_extended (2 ^ 32 - back) (omega (arith, small))) ∙ sum
-
-pub reads-back : (at field : ℕ) → 0x401011 ≤ at → at < 0x420000 → field ≡ at + 6 → IsReadOf (Jcc32 5 0x401011) at (0x0f ∷ 0x85 ∷ lead 4 field 0x401011)
+pub reads-back : (at field : ℕ) → blocks ≤ at → at < 0x420000 → field ≡ at + 6 → IsReadOf (Jcc32 5 blocks) at (0x0f ∷ 0x85 ∷ lead 4 field blocks)
 unfolding read
 reads-back at field low high is rest =
     let from : after at 6 ≡ field = omega (arith, high, is) in
-    let far = 0x401011 + 2 ^ 64 - field in
-    let target : leads w32 (after at 6) (to_le_bytes w32 far) ≡ 0x401011 =
-    ap (λ (f : ℕ). leads w32 f (to_le_bytes w32 far)) from
-    ∙ back-leads field far (field - 0x401011) (omega (arith, high, is)) (omega (arith, low, is)) (omega (arith, low, is)) (omega (arith, high, is)) (omega (arith, low, is, high)) in
+    let target : leads w32 (after at 6) (to_le_bytes w32 (blocks + 2 ^ 64 - field)) ≡ blocks =
+    ap (λ (f : ℕ). leads w32 f (to_le_bytes w32 (blocks + 2 ^ 64 - field))) from
+    ∙ near-leads field blocks (omega (arith, high, is)) (omega (arith, low, is)) (omega (arith, high, is)) in
     ap (λ (to : ℕ). Ok (Jcc32 5 to, 6)) target

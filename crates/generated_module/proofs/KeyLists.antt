@@ -1,13 +1,14 @@
 -- The addresses of a generated module's keys: two of jumps and two of calls, of which the first ten blocks name each.
 use Rattle.std.proofs.Common.{◌≡◌, ◌<◌, ◌≤◌, ◌+◌, ◌-◌, ◌*◌, ◌/◌, ◌%◌, ◌∙◌, ◌++◌, ℕ, zero, suc, List, [], ◌∷◌, length, None, Some, refl, ap, arith}
+use Rattle.std.specs.List.{AllByRecursion as Each}
 use Rattle.elf_build.specs.declared.generation.Block.{Block}
 use Rattle.elf_build.specs.declared.generation.Block.TheVariants.{FarSwitch, NearSwitch, Call as CallBlock, Trace as TraceBlock, TailCall}
-use Rattle.elf_build.specs.Generated.{block_len, block_of}
+use Rattle.elf_build.specs.Generated.{block_len, block_of, blocks}
 use Rattle.module_image.specs.declared.entry.Entry.{Entry}
 use Rattle.module_image.specs.declared.key.KeyClass.{KeyClass}
 use Rattle.module_image.specs.declared.key.KeyClass.TheVariants.{Jump, Call}
 use Rattle.module_image.specs.Keys.{gathered, key_in, place_in, with_key, with_named}
-use Rattle.generated_module.proofs.Each.{Each, each-append}
+use Rattle.generated_module.proofs.Each.{each-append}
 use Rattle.generated_module.proofs.EntryLists.{block_calls, block_entry, block_jumps, block_traces, call-table, calls_from, each-any, jump-table, jumps_from, trace-table, traces_from}
 
 -- the addresses of the keys of a class
@@ -73,32 +74,32 @@ no-calls (suc left) i at =
 
 -- where the eleventh block begins
 abbrev eleventh : ℕ
-eleventh = 0x401011 + 66
+eleventh = blocks + 66
 
 -- the keys that all entries name
 abbrev pub all_entries : ℕ → List Entry
-all_entries n = jumps_from n 0 0x401011 ++ (calls_from n 0 0x401011 ++ traces_from n 0 0x401011)
+all_entries n = jumps_from n 0 blocks ++ (calls_from n 0 blocks ++ traces_from n 0 blocks)
 
 jumps-gathered : (m : ℕ) → gathered Jump (all_entries (suc (suc (suc (suc (suc (suc (suc (suc (suc (suc m))))))))))) [] ≡ jump_keys
 jumps-gathered m =
     let n = suc (suc (suc (suc (suc (suc (suc (suc (suc (suc m))))))))) in
     let js = jumps_from m 10 eleventh in
-    let cs = calls_from n 0 0x401011 in
-    let ts = traces_from n 0 0x401011 in
+    let cs = calls_from n 0 blocks in
+    let ts = traces_from n 0 blocks in
     let P = IsKept Jump jump_keys in
-    let all = each-append P js (cs ++ ts) (each-any block_jumps jump-table P jump-kept m 10 eleventh) (each-append P cs ts (each-any block_calls call-table P jump-kept n 0 0x401011) (each-any block_traces trace-table P jump-kept n 0 0x401011)) in
+    let all = each-append P js (cs ++ ts) (each-any block_jumps jump-table P jump-kept m 10 eleventh) (each-append P cs ts (each-any block_calls call-table P jump-kept n 0 blocks) (each-any block_traces trace-table P jump-kept n 0 blocks)) in
     kept Jump (js ++ (cs ++ ts)) jump_keys all
 
 calls-gathered : (m : ℕ) → gathered Call (all_entries (suc (suc (suc (suc (suc (suc (suc (suc (suc (suc m))))))))))) [] ≡ call_keys
 calls-gathered m =
     let n = suc (suc (suc (suc (suc (suc (suc (suc (suc (suc m))))))))) in
-    let js = jumps_from n 0 0x401011 in
-    let cs = calls_from n 0 0x401011 in
+    let js = jumps_from n 0 blocks in
+    let cs = calls_from n 0 blocks in
     let rest = calls_from m 10 eleventh in
-    let ts = traces_from n 0 0x401011 in
+    let ts = traces_from n 0 blocks in
     let P = IsKept Call call_keys in
-    let all = each-append P rest ts (each-any block_calls call-table P call-kept m 10 eleventh) (each-any block_traces trace-table P call-kept n 0 0x401011) in
-    gathered-append Call js (cs ++ ts) [] ∙ ap (gathered Call (cs ++ ts)) (kept Call js [] (no-calls n 0 0x401011))
+    let all = each-append P rest ts (each-any block_calls call-table P call-kept m 10 eleventh) (each-any block_traces trace-table P call-kept n 0 blocks) in
+    gathered-append Call js (cs ++ ts) [] ∙ ap (gathered Call (cs ++ ts)) (kept Call js [] (no-calls n 0 blocks))
     ∙ kept Call (rest ++ ts) call_keys all
 
 -- of ten blocks or more

@@ -15,3 +15,4 @@ pub mod FileKeys
 pub mod FileNames
 pub mod Accepting
 pub mod BenchScripts
+pub mod Refuting

@@ -1,9 +1,9 @@
 -- Units that follow one another from the first address of a text to its end are all that begin at starts.
 use Rattle.std.proofs.Common.{◌≡◌, ◌<◌, ◌≤◌, ◌+◌, ◌∙◌, ◌⊎◌, inl, inr, ℕ, Bool, true, List, [], ◌∷◌, Option, refl, sym, ap, subst, arith}
+use Rattle.std.specs.List.{AllByRecursion as Each}
 use Rattle.module_image.specs.Layout.{Layout, IsStart, text_end, unit_at, unit_len, may_end}
 use Rattle.module_image.specs.Layout.IsStart.{the_first, the_end}
 use Rattle.module_image.specs.Aims.{plain_target}
-use Rattle.generated_module.proofs.Each.{Each}
 
 -- a unit: where it begins, how many bytes it has, where it leads as a plain instruction, whether it may be the last
 pub record Piece : Type 0 where

@@ -1,5 +1,6 @@
 -- Sites by their addresses: those of jumps, of calls and of traces, each ascending, are those of the blocks in order.
 use Rattle.std.proofs.Common.{◌≡◌, ◌<◌, ◌≤◌, ◌+◌, ◌∙◌, ◌++◌, nat_le, ℕ, zero, suc, Bool, true, false, if◌then◌else◌, List, [], ◌∷◌, map, refl, sym, ap, arith, append_assoc}
+use Rattle.std.specs.List.{AllByRecursion as Each}
 use Rattle.std.proofs.lemmas.Bool.{le-leb, leb-true}
 use Rattle.elf_build.specs.declared.generation.Block.{Block}
 use Rattle.elf_build.specs.declared.generation.Block.TheVariants.{FarSwitch, NearSwitch, Call as CallBlock, Trace as TraceBlock, TailCall}
@@ -7,7 +8,7 @@ use Rattle.elf_build.specs.Generated.{block_len, block_of}
 use Rattle.module_image.specs.declared.entry.Entry.{Entry}
 use Rattle.module_image.specs.declared.site.Site.{Site}
 use Rattle.module_image.specs.Sites.{ascending, insert_site, site_of}
-use Rattle.generated_module.proofs.Each.{Each, each-append, each-map, each-more}
+use Rattle.generated_module.proofs.Each.{each-append, each-map, each-more}
 use Rattle.generated_module.proofs.EntryLists.{block_calls, block_entry, block_jumps, block_traces, call-table, calls_from, each-after, entries_from, jump-table, jumps_from, trace-table, traces_from}
 
 -- what holds of each site holds of each when they are sorted

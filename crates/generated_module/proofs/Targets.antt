@@ -1,12 +1,13 @@
 -- Where the units, sites and functions of a generated module lead: to where units begin.
 use Rattle.std.proofs.Common.{◌≡◌, ◌<◌, ◌≤◌, ◌+◌, ◌-◌, ◌^◌, ◌∙◌, ◌++◌, ◌⊎◌, inl, inr, nat_lt, if◌then◌else◌, ℕ, zero, suc, Bool, List, [], ◌∷◌, length, Option, Some, None, option_map, refl, sym, ap, subst, arith}
+use Rattle.std.specs.List.{AllByRecursion as Each}
 use Rattle.std.specs.Int.{w8}
 use Rattle.std.proofs.lemmas.Bool.{le-ltb}
 use Rattle.std.proofs.lemmas.Option.{none-some, same_Some}
 use Rattle.elf_build.specs.declared.generation.Block.{Block}
 use Rattle.elf_build.specs.declared.generation.Block.TheVariants.{FarSwitch, NearSwitch, Call as CallBlock, Trace as TraceBlock, TailCall}
 use Rattle.elf_build.specs.declared.plan.PlanFunction.{PlanFunction}
-use Rattle.elf_build.specs.Generated.{block_functions, block_len, block_of, first_functions, functions_from, functions_of}
+use Rattle.elf_build.specs.Generated.{block_functions, block_len, block_of, blocks, first_functions, functions_from, functions_of}
 use Rattle.insn_forms.specs.declared.forms.Form.TheVariants.{Jmp8}
 use Rattle.insn_forms.specs.Displacement.{displacement, leads}
 use Rattle.insn_forms.specs.Spelling.{after, spell}
@@ -16,7 +17,7 @@ use Rattle.module_image.specs.declared.unit.Aim.{Aim}
 use Rattle.module_image.specs.Aims.{jump_aims}
 use Rattle.module_image.specs.Refusals.{IsOutOfReach}
 use Rattle.module_image.specs.Sites.{overlap_after}
-use Rattle.generated_module.proofs.Each.{Each, each-append}
+use Rattle.generated_module.proofs.Each.{each-append}
 use Rattle.generated_module.proofs.Pieces.{Among, EndsWell, Piece, ends-more}
 use Rattle.generated_module.proofs.Blocks.{Stands, block_made, block-after, block-within, made_from, stands-next}
 use Rattle.generated_module.proofs.Chains.{block_pieces, head_pieces, pieces_from, pieces_of}
@@ -57,9 +58,9 @@ module _ (S : ℕ → Type 0) where
   block-leads TailCall i at ps all later rest =
       (somewhere S (Some (at + 7)) (at + 7) (all (at + 7) (inr (inr (inl refl)))) refl, (somewhere S (Some (at + 12)) (at + 12) later refl, (nowhere S None refl, rest)))
 
-  pieces-lead : S 0x401011 → (left i at : ℕ) → ((x : ℕ) → Among x (pieces_from left i at) → S x) → Each (LeadsTo S) (pieces_from left i at)
+  pieces-lead : S blocks → (left i at : ℕ) → ((x : ℕ) → Among x (pieces_from left i at) → S x) → Each (LeadsTo S) (pieces_from left i at)
   pieces-lead first zero i at all =
-      (nowhere S None refl, (somewhere S (Some 0x401011) 0x401011 first refl, (nowhere S None refl, (nowhere S None refl, tt))))
+      (nowhere S None refl, (somewhere S (Some blocks) blocks first refl, (nowhere S None refl, (nowhere S None refl, tt))))
   pieces-lead first (suc left) i at all =
       let b = block_of i in
       let later = at + block_len b in
@@ -69,9 +70,9 @@ module _ (S : ℕ → Type 0) where
 
   pub all-lead : (n : ℕ) → ((x : ℕ) → Among x (pieces_of n) → S x) → Each (LeadsTo S) (pieces_of n)
   all-lead n all =
-      let rest : (x : ℕ) → Among x (pieces_from n 0 0x401011) → S x = λ x there. all x (inr (inr (inr (inr (inr (inr (inr there))))))) in
+      let rest : (x : ℕ) → Among x (pieces_from n 0 blocks) → S x = λ x there. all x (inr (inr (inr (inr (inr (inr (inr there))))))) in
       let none : (to : ℕ) → None ≡ Some to → S to = nowhere S None refl in
-      (none, (none, (none, (none, (none, (none, (none, pieces-lead (rest 0x401011 (begins n 0 0x401011)) n 0 0x401011 rest)))))))
+      (none, (none, (none, (none, (none, (none, (none, pieces-lead (rest blocks (begins n 0 blocks)) n 0 blocks rest)))))))
 
   -- and each to which a jump site leads
   block-aims : (b : Block) (i at : ℕ) (ss : List Site) → S (at + block_len b) → Each (λ (aim : Aim). S aim.to) (jump_aims ss) → Each (λ (aim : Aim). S aim.to) (jump_aims (block_made b i at ∷ ss))
@@ -90,8 +91,8 @@ module _ (S : ℕ → Type 0) where
       let rest : (x : ℕ) → Among x ps → S x = λ x there. all x (among-later (block_pieces b i at) ps x there) in
       block-aims b i at (made_from left (i + 1) later) (rest later (begins left (i + 1) later)) (sites-lead-from left (i + 1) later rest)
 
-  pub sites-lead : (n : ℕ) → ((x : ℕ) → Among x (pieces_of n) → S x) → Each (λ (aim : Aim). S aim.to) (jump_aims (made_from n 0 0x401011))
-  sites-lead n all = sites-lead-from n 0 0x401011 (λ x there. all x (inr (inr (inr (inr (inr (inr (inr there))))))))
+  pub sites-lead : (n : ℕ) → ((x : ℕ) → Among x (pieces_of n) → S x) → Each (λ (aim : Aim). S aim.to) (jump_aims (made_from n 0 blocks))
+  sites-lead n all = sites-lead-from n 0 blocks (λ x there. all x (inr (inr (inr (inr (inr (inr (inr there))))))))
 
   -- and each of a function
   block-function : (b : Block) (i at : ℕ) → S at → Each (λ (f : PlanFunction). S f.at) (block_functions b i at)
@@ -121,7 +122,7 @@ module _ (S : ℕ → Type 0) where
       all 0x401008 (inr (inr (inr (inr (inl refl))))),
       (
       all 0x40100c (inr (inr (inr (inr (inr (inr (inl refl))))))),
-      functions-start-from n 0 0x401011 (λ x there. all x (inr (inr (inr (inr (inr (inr (inr there)))))))),
+      functions-start-from n 0 blocks (λ x there. all x (inr (inr (inr (inr (inr (inr (inr there)))))))),
       ),
       ),
       ),
@@ -139,7 +140,7 @@ ends-from (suc left) i at =
     ends-later (block_pieces (block_of i) i at) (pieces_from left (i + 1) (at + block_len (block_of i))) (ends-from left (i + 1) (at + block_len (block_of i)))
 
 pub ends-well : (n : ℕ) → EndsWell (pieces_of n)
-ends-well n = ends-later head_pieces (pieces_from n 0 0x401011) (ends-from n 0 0x401011)
+ends-well n = ends-later head_pieces (pieces_from n 0 blocks) (ends-from n 0 blocks)
 
 -- ---- the sites
 
