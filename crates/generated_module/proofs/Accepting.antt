@@ -1,5 +1,5 @@
 -- No condition of a refusal holds of the file that is written of a generated module's plan.
-use Rattle.std.proofs.Common.{◌≡◌, ◌≢◌, ◌<◌, ◌≤◌, ◌+◌, ◌-◌, ◌*◌, ◌%◌, ◌^◌, ◌∙◌, ◌⊎◌, ◌++◌, inl, inr, ℕ, zero, suc, true, false, List, [], ◌∷◌, length, map, drop, slice_get, Option, Some, None, refl, sym, ap, subst, arith, true≢false}
+use Rattle.std.proofs.Common.{◌≡◌, ◌<◌, ◌≤◌, ◌+◌, ◌*◌, ◌∙◌, ◌++◌, inl, inr, ℕ, zero, suc, false, List, [], ◌∷◌, length, map, slice_get, Option, Some, None, refl, sym, ap, subst, arith, true≢false}
 use Rattle.std.specs.List.{AllByRecursion as Each}
 use Rattle.std.proofs.lemmas.List.{length-append, map-append}
 use Rattle.std.proofs.lemmas.Option.{none-some}
@@ -22,7 +22,7 @@ use Rattle.module_image.specs.declared.refused.Refused.{Refused}
 use Rattle.module_image.specs.declared.refused.Refused.TheVariants.{TextCount, TextSize, Table, SiteCount, SiteOutside, SiteLength, SiteOverlap, KeyOutside, KeyState, NoReach, TracerMissing, Undecoded, BadTarget, EndFalls, NoMemory}
 use Rattle.module_image.specs.declared.site.Site.{Site}
 use Rattle.module_image.specs.declared.unit.Aim.{Aim}
-use Rattle.module_image.specs.Aims.{AllReach, IsFirstBad, IsFirstBadOf, IsPlainAim, function_aim, jump_aims, key_aims, plain_target}
+use Rattle.module_image.specs.Aims.{IsFirstBad, IsFirstBadOf, IsPlainAim, jump_aims, key_aims, plain_target}
 use Rattle.module_image.specs.Aims.IsFirstBadOf.{of_plain, of_jumps, of_keys, of_functions}
 use Rattle.module_image.specs.Entries.{base, entries, file_text, length_at, text_section}
 use Rattle.module_image.specs.First.{HasNone}
@@ -30,7 +30,7 @@ use Rattle.module_image.specs.Keys.{key_addresses, keys}
 use Rattle.module_image.specs.Layout.{IsFalling, IsStart, IsUndecoded, Layout, laid, layout, text_end, unit_at, unit_len}
 use Rattle.module_image.specs.Layout.IsStart.{the_first}
 use Rattle.module_image.specs.Names.{Named, functions}
-use Rattle.module_image.specs.Refusals.{HasBadLength, HasBadSize, HasBadState, Holds, IsBadLength, IsBadText, IsKeyOutside, IsOutOfReach, IsOutside, IsOutsideOf, Passes, function_aims, order, past_all, past_site_overlap, room_of}
+use Rattle.module_image.specs.Refusals.{HasBadLength, HasBadSize, HasBadState, Holds, IsBadLength, IsBadText, IsKeyOutside, IsOutOfReach, IsOutside, IsOutsideOf, Passes, function_aims, order, past_all, past_site_overlap}
 use Rattle.module_image.specs.Sites.{ascending, overlap_after, site_of, sites, starts_of, text}
 use Rattle.module_image.specs.Text.{AreInside}
 use Rattle.module_image.proofs.Firsts.{none_first}
@@ -41,16 +41,16 @@ use Rattle.module_image.proofs.WrittenSites.{sites_kept}
 use Rattle.elf_build.proofs.Generates.{generated-fits}
 use Rattle.written_module.proofs.ReadBack.{reads-back}
 use Rattle.generated_module.specs.Accepted.{GeneratedAreAccepted, elf_of}
-use Rattle.generated_module.proofs.Each.{each-append, each-at, each-map, each-more, none-each}
-use Rattle.generated_module.proofs.Pieces.{Among, Chain, Piece, PieceAt, ends, known, piece-at, starts}
-use Rattle.generated_module.proofs.Units.{AllOff, IsWritten}
+use Rattle.generated_module.proofs.Each.{each-append, each-at, each-more, none-each}
+use Rattle.generated_module.proofs.Pieces.{Among, Chain, PieceAt, ends, known, piece-at, starts}
+use Rattle.generated_module.proofs.Units.{IsWritten}
 use Rattle.generated_module.proofs.Blocks.{Stands, length-block, made-own, made_from}
 use Rattle.generated_module.proofs.Chains.{chain-of, pieces_of}
-use Rattle.generated_module.proofs.EntryLists.{block_calls, block_entry, block_jumps, block_traces, call-table, calls_from, each-standing, entries_from, entry-after, jump-table, jumps_from, trace-table, traces_from}
+use Rattle.generated_module.proofs.EntryLists.{block_calls, block_entry, block_jumps, block_traces, call-table, calls_from, each-standing, entry-after, jump-table, jumps_from, trace-table, traces_from}
 use Rattle.generated_module.proofs.FileKeys.{call-addresses, good-states, jump-addresses, keys-are, keys-inside, made_keys}
 use Rattle.generated_module.proofs.FileNames.{functions-are, named, tracer-is}
 use Rattle.generated_module.proofs.FileSections.{base-is, entries-are, file-text-is, one-text, text-is, whole-tables}
-use Rattle.generated_module.proofs.KeyLists.{all_entries, call_keys, jump_keys}
+use Rattle.generated_module.proofs.KeyLists.{call_keys, jump_keys}
 use Rattle.generated_module.proofs.MadeSites.{good-length, room-inside, sites-are}
 use Rattle.generated_module.proofs.SiteOrder.{in-order}
 use Rattle.generated_module.proofs.Targets.{LeadsTo, all-lead, all-reach, ends-well, functions-start, length-made, no-overlap, sites-lead}
@@ -194,11 +194,11 @@ module _ (n : ℕ) (few : 10 ≤ n) (many : n ≤ 1000) (plan : Plan) (made : Is
       record {
         same = same;
         kept = λ at len low off.
-        sites_kept (base elf) (length (file_text elf)) (starts_of (keys elf)) (sites elf) (file_text elf) at len refl inside (call_lens_passed elf) low (λ i s get own. off i s get);
+            sites_kept (base elf) (length (file_text elf)) (starts_of (keys elf)) (sites elf) (file_text elf) at len refl inside (call_lens_passed elf) low (λ i s get own. off i s get);
         inside = subst (λ (size : ℕ). AreInside (base elf) size (sites elf)) (sym same) inside;
         apart = sites_apart_passed elf early-passes;
         own = subst (λ (ss : List Site). (i : ℕ) (s : Site) → slice_get ss i ≡ Some s → s.foreign ≡ false) (sym found-sites)
-        (λ i s get. each-at (λ (s : Site). s.foreign ≡ false) (made_from n 0 blocks) i s (made-own n 0 blocks) get);
+            (λ i s get. each-at (λ (s : Site). s.foreign ≡ false) (made_from n 0 blocks) i s (made-own n 0 blocks) get);
       }
 
   written-text : IsWritten swept (text_of n)

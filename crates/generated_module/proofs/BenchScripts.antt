@@ -1,19 +1,14 @@
 -- The script of a bench is read, line by line, in a module whose names stand for what they do in a generated one.
-use Rattle.std.proofs.Common.{◌≡◌, ◌≤◌, ◌+◌, ◌∙◌, ℕ, true, false, List, [], ◌∷◌, take, codes, Some, Result, Ok, refl, ap}
-use Rattle.std.specs.List.{AllByRecursion as Each}
+use Rattle.std.proofs.Common.{◌≡◌, ◌≤◌, ◌+◌, ◌∙◌, ℕ, List, [], ◌∷◌, take, codes, Some, Result, Ok, refl, ap}
 use Rattle.poke_base.specs.Text.{words}
 use Rattle.elf_build.proofs.Generates.{generated-fits}
 use Rattle.elf_build.specs.declared.plan.Plan.{Plan}
-use Rattle.elf_build.specs.declared.plan.PlanFunction.{PlanFunction}
 use Rattle.elf_build.specs.File.{file_of}
-use Rattle.elf_build.specs.Generated.{IsGenerated, functions_of, main, fb, text_of}
+use Rattle.elf_build.specs.Generated.{IsGenerated, main, text_of}
 use Rattle.written_module.proofs.ReadBack.{reads-back}
-use Rattle.module_image.specs.declared.command.Command.TheVariants.{Inc, Dec, Target, TraceAll}
 use Rattle.module_image.specs.Module.{IsModule, Module}
 use Rattle.module_image.specs.Names.{value_of}
 use Rattle.script_text.specs.declared.refused.ScriptWhy.{ScriptWhy}
-use Rattle.script_text.specs.declared.script.ScriptStep.{ScriptStep}
-use Rattle.script_text.specs.declared.script.ScriptStep.TheVariants.{Run, Update}
 use Rattle.script_text.specs.Script.{ScriptValue, empty_script, go_on, read_from, script, taken}
 use Rattle.generated_module.specs.Accepted.{elf_of}
 use Rattle.generated_module.specs.Bench.{BenchScriptsAreRead, bench_script, bench_steps, bench_value}

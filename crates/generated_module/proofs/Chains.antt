@@ -1,7 +1,6 @@
 -- What a generated text is made of, from its first address to its end.
-use Rattle.std.proofs.Common.{◌≡◌, ◌<◌, ◌≤◌, ◌+◌, ◌-◌, ◌^◌, ◌∙◌, ◌⊎◌, ◌++◌, inl, inr, ℕ, zero, suc, true, List, [], ◌∷◌, length, drop, slice_get, Some, refl, sym, ap, subst, arith, append_assoc}
+use Rattle.std.proofs.Common.{◌≡◌, ◌<◌, ◌≤◌, ◌+◌, ◌-◌, ◌^◌, ◌∙◌, ◌⊎◌, ◌++◌, inl, inr, ℕ, zero, suc, List, [], ◌∷◌, length, drop, slice_get, Some, refl, sym, ap, subst, arith, append_assoc}
 use Rattle.std.specs.List.{AllByRecursion as Each}
-use Rattle.std.proofs.lemmas.List.{length-append}
 use Rattle.elf_build.specs.declared.generation.Block.{Block}
 use Rattle.elf_build.specs.declared.generation.Block.TheVariants.{FarSwitch, NearSwitch, Call as CallBlock, Trace as TraceBlock, TailCall}
 use Rattle.elf_build.specs.File.{lead}
@@ -14,7 +13,7 @@ use Rattle.module_image.proofs.WrittenSites.{IsOff}
 use Rattle.generated_module.proofs.Each.{each-append, each-at, each-more}
 use Rattle.generated_module.proofs.Pieces.{Piece, Chain}
 use Rattle.generated_module.proofs.Units.{AllOff, IsWritten, patched, plain, plain-piece, site-piece}
-use Rattle.generated_module.proofs.Blocks.{Stands, block_made, block-within, drop-further, length-block, made_from, made-after, stands-next}
+use Rattle.generated_module.proofs.Blocks.{Stands, block_made, block-within, drop-further, made_from, made-after, stands-next}
 use Rattle.generated_module.proofs.Instructions.{reads-add, reads-add-ebx, reads-add-edi, reads-back, reads-call, reads-dec-ecx, reads-inc-eax, reads-inc-edx, reads-jump, reads-mov, reads-out, reads-ret}
 
 -- the units of a block, of what stands after the blocks, and of what stands before them
@@ -80,15 +79,14 @@ block-chain t file is TailCall i at rest ps low short bytes inside beside k here
     let off_call = all-off t at (at + 12) own at 5 beside (omega arith) (omega arith) (inl (omega arith)) in
     let off_jump = all-off t at (at + 12) own (at + 5) 2 beside (omega arith) (omega arith) (inl (omega arith)) in
     let third : at + 7 ≡ at + 5 + 2 = omega arith in
-    let sum : at + 12 ≡ at + 5 + 2 + 5 = omega arith in
-    (
-    refl,
-    plain-piece t file is at 5 (CallTo (at + 7)) (0xe8 ∷ 0x02 ∷ 0x00 ∷ 0x00 ∷ 0x00 ∷ []) (0xeb ∷ 0x05 ∷ (site ++ rest)) refl low bytes (reads-call at (omega (arith, short))) (omega arith) (omega (arith, inside)) off_call,
-    (
-    refl,
-    plain-piece t file is (at + 5) 2 (Jmp8 (at + 12)) (0xeb ∷ 0x05 ∷ []) (site ++ rest) refl (omega (arith, low)) after (reads-jump (at + 5) (at + 12) (omega (arith, short)) (omega arith)) (omega arith) (omega (arith, inside)) off_jump,
-    (third, site-piece t file is k own here, subst (λ (a : ℕ). Chain t a ps) sum chain),
-    ),
+    let sum : at + 12 ≡ at + 5 + 2 + 5 = omega arith in (
+      refl,
+      plain-piece t file is at 5 (CallTo (at + 7)) (0xe8 ∷ 0x02 ∷ 0x00 ∷ 0x00 ∷ 0x00 ∷ []) (0xeb ∷ 0x05 ∷ (site ++ rest)) refl low bytes (reads-call at (omega (arith, short))) (omega arith) (omega (arith, inside)) off_call,
+      (
+        refl,
+        plain-piece t file is (at + 5) 2 (Jmp8 (at + 12)) (0xeb ∷ 0x05 ∷ []) (site ++ rest) refl (omega (arith, low)) after (reads-jump (at + 5) (at + 12) (omega (arith, short)) (omega arith)) (omega arith) (omega (arith, inside)) off_jump,
+        (third, site-piece t file is k own here, subst (λ (a : ℕ). Chain t a ps) sum chain),
+      ),
     )
 
 -- the units after the blocks
@@ -100,23 +98,22 @@ end-chain t file is at low start short bytes whole before =
     inr (omega (arith, ends, le)) in
     let second = drop-further t.base at 2 file (0xff ∷ 0xc9 ∷ []) (0x0f ∷ 0x85 ∷ (back ++ (0xe6 ∷ 0x10 ∷ 0xc3 ∷ []))) low bytes refl in
     let third = drop-further t.base at 8 file (0xff ∷ 0xc9 ∷ 0x0f ∷ 0x85 ∷ back) (0xe6 ∷ 0x10 ∷ 0xc3 ∷ []) low bytes refl in
-    let fourth = drop-further t.base at 10 file ((0xff ∷ 0xc9 ∷ 0x0f ∷ 0x85 ∷ back) ++ (0xe6 ∷ 0x10 ∷ [])) (0xc3 ∷ []) low bytes refl in
-    (
-    refl,
-    plain-piece t file is at 2 (Dec 1) (0xff ∷ 0xc9 ∷ []) (0x0f ∷ 0x85 ∷ (back ++ (0xe6 ∷ 0x10 ∷ 0xc3 ∷ []))) refl low bytes (reads-dec-ecx at) (omega arith) (omega (arith, whole)) (off at 2 (omega arith)),
-    (
-    refl,
-    plain-piece t file is (at + 2) 6 (Jcc32 5 blocks) (0x0f ∷ 0x85 ∷ back) (0xe6 ∷ 0x10 ∷ 0xc3 ∷ []) refl (omega (arith, low)) second (reads-back (at + 2) (at + 8) (omega (arith, start)) (omega (arith, short)) (omega arith)) (omega arith) (omega (arith, whole)) (off (at + 2) 6 (omega arith)),
-    (
-    omega arith,
-    plain-piece t file is (at + 8) 2 (Out 16) (0xe6 ∷ 0x10 ∷ []) (0xc3 ∷ []) refl (omega (arith, low)) third (reads-out (at + 8)) (omega arith) (omega (arith, whole)) (off (at + 8) 2 (omega arith)),
-    (
-    omega arith,
-    plain-piece t file is (at + 10) 1 Ret (0xc3 ∷ []) [] refl (omega (arith, low)) fourth (reads-ret (at + 10)) (omega arith) (omega (arith, whole)) (off (at + 10) 1 (omega arith)),
-    omega (arith, whole),
-    ),
-    ),
-    ),
+    let fourth = drop-further t.base at 10 file ((0xff ∷ 0xc9 ∷ 0x0f ∷ 0x85 ∷ back) ++ (0xe6 ∷ 0x10 ∷ [])) (0xc3 ∷ []) low bytes refl in (
+      refl,
+      plain-piece t file is at 2 (Dec 1) (0xff ∷ 0xc9 ∷ []) (0x0f ∷ 0x85 ∷ (back ++ (0xe6 ∷ 0x10 ∷ 0xc3 ∷ []))) refl low bytes (reads-dec-ecx at) (omega arith) (omega (arith, whole)) (off at 2 (omega arith)),
+      (
+        refl,
+        plain-piece t file is (at + 2) 6 (Jcc32 5 blocks) (0x0f ∷ 0x85 ∷ back) (0xe6 ∷ 0x10 ∷ 0xc3 ∷ []) refl (omega (arith, low)) second (reads-back (at + 2) (at + 8) (omega (arith, start)) (omega (arith, short)) (omega arith)) (omega arith) (omega (arith, whole)) (off (at + 2) 6 (omega arith)),
+        (
+          omega arith,
+          plain-piece t file is (at + 8) 2 (Out 16) (0xe6 ∷ 0x10 ∷ []) (0xc3 ∷ []) refl (omega (arith, low)) third (reads-out (at + 8)) (omega arith) (omega (arith, whole)) (off (at + 8) 2 (omega arith)),
+          (
+            omega arith,
+            plain-piece t file is (at + 10) 1 Ret (0xc3 ∷ []) [] refl (omega (arith, low)) fourth (reads-ret (at + 10)) (omega arith) (omega (arith, whole)) (off (at + 10) 1 (omega arith)),
+            omega (arith, whole),
+          ),
+        ),
+      ),
     )
 
 -- the blocks that are left stand at an address, and their sites are the last of the text's
@@ -136,8 +133,8 @@ placed-next t file left i at p =
       earlier = p.earlier ++ own ∷ [];
       split = p.split ∙ sym (append_assoc p.earlier (own ∷ []) (made_from left (i + 1) later));
       before = each-append (λ (s : Site). s.at + s.len ≤ later) p.earlier (own ∷ [])
-      (each-more (λ (s : Site). s.at + s.len ≤ at) (λ (s : Site). s.at + s.len ≤ later) p.earlier (λ s le. omega (arith, le)) p.before)
-      (within, tt);
+          (each-more (λ (s : Site). s.at + s.len ≤ at) (λ (s : Site). s.at + s.len ≤ later) p.earlier (λ s le. omega (arith, le)) p.before)
+          (within, tt);
     }
 
 -- where the first of the later sites stands
@@ -188,33 +185,32 @@ chain-of n text is small =
       earlier = [];
       split = refl;
       before = tt;
-    } in
-    (
-    refl,
-    plain-piece t file is 0x401000 3 (AluImm Add 6 1) (0x83 ∷ 0xc6 ∷ 0x01 ∷ []) (drop 3 file) refl (omega arith) refl (reads-add 0x401000) (omega arith) (room 3 (omega arith)) (off 0x401000 3 (omega arith)),
-    (
-    refl,
-    plain-piece t file is 0x401003 1 Ret (0xc3 ∷ []) (drop 4 file) refl (omega arith) refl (reads-ret 0x401003) (omega arith) (room 4 (omega arith)) (off 0x401003 1 (omega arith)),
-    (
-    refl,
-    plain-piece t file is 0x401004 3 (AluImm Add 7 1) (0x83 ∷ 0xc7 ∷ 0x01 ∷ []) (drop 7 file) refl (omega arith) refl (reads-add-edi 0x401004) (omega arith) (room 7 (omega arith)) (off 0x401004 3 (omega arith)),
-    (
-    refl,
-    plain-piece t file is 0x401007 1 Ret (0xc3 ∷ []) (drop 8 file) refl (omega arith) refl (reads-ret 0x401007) (omega arith) (room 8 (omega arith)) (off 0x401007 1 (omega arith)),
-    (
-    refl,
-    plain-piece t file is 0x401008 3 (AluImm Add 3 1) (0x83 ∷ 0xc3 ∷ 0x01 ∷ []) (drop 11 file) refl (omega arith) refl (reads-add-ebx 0x401008) (omega arith) (room 11 (omega arith)) (off 0x401008 3 (omega arith)),
-    (
-    refl,
-    plain-piece t file is 0x40100b 1 Ret (0xc3 ∷ []) (drop 12 file) refl (omega arith) refl (reads-ret 0x40100b) (omega arith) (room 12 (omega arith)) (off 0x40100b 1 (omega arith)),
-    (
-    refl,
-    plain-piece t file is 0x40100c 5 (MovImm 1 3) (0xb9 ∷ 0x03 ∷ 0x00 ∷ 0x00 ∷ 0x00 ∷ []) loop refl (omega arith) refl (reads-mov 0x40100c) (omega arith) (room 17 (omega arith)) (off 0x40100c 5 (omega arith)),
-    chain-from t file is n 0 blocks placed,
-    ),
-    ),
-    ),
-    ),
-    ),
-    ),
+    } in (
+      refl,
+      plain-piece t file is 0x401000 3 (AluImm Add 6 1) (0x83 ∷ 0xc6 ∷ 0x01 ∷ []) (drop 3 file) refl (omega arith) refl (reads-add 0x401000) (omega arith) (room 3 (omega arith)) (off 0x401000 3 (omega arith)),
+      (
+        refl,
+        plain-piece t file is 0x401003 1 Ret (0xc3 ∷ []) (drop 4 file) refl (omega arith) refl (reads-ret 0x401003) (omega arith) (room 4 (omega arith)) (off 0x401003 1 (omega arith)),
+        (
+          refl,
+          plain-piece t file is 0x401004 3 (AluImm Add 7 1) (0x83 ∷ 0xc7 ∷ 0x01 ∷ []) (drop 7 file) refl (omega arith) refl (reads-add-edi 0x401004) (omega arith) (room 7 (omega arith)) (off 0x401004 3 (omega arith)),
+          (
+            refl,
+            plain-piece t file is 0x401007 1 Ret (0xc3 ∷ []) (drop 8 file) refl (omega arith) refl (reads-ret 0x401007) (omega arith) (room 8 (omega arith)) (off 0x401007 1 (omega arith)),
+            (
+              refl,
+              plain-piece t file is 0x401008 3 (AluImm Add 3 1) (0x83 ∷ 0xc3 ∷ 0x01 ∷ []) (drop 11 file) refl (omega arith) refl (reads-add-ebx 0x401008) (omega arith) (room 11 (omega arith)) (off 0x401008 3 (omega arith)),
+              (
+                refl,
+                plain-piece t file is 0x40100b 1 Ret (0xc3 ∷ []) (drop 12 file) refl (omega arith) refl (reads-ret 0x40100b) (omega arith) (room 12 (omega arith)) (off 0x40100b 1 (omega arith)),
+                (
+                  refl,
+                  plain-piece t file is 0x40100c 5 (MovImm 1 3) (0xb9 ∷ 0x03 ∷ 0x00 ∷ 0x00 ∷ 0x00 ∷ []) loop refl (omega arith) refl (reads-mov 0x40100c) (omega arith) (room 17 (omega arith)) (off 0x40100c 5 (omega arith)),
+                  chain-from t file is n 0 blocks placed,
+                ),
+              ),
+            ),
+          ),
+        ),
+      ),
     )

@@ -1,5 +1,5 @@
 -- The keys of the file that is written of a generated module's plan.
-use Rattle.std.proofs.Common.{◌≡◌, ◌<◌, ◌≤◌, ◌+◌, ◌*◌, ◌%◌, ◌^◌, ◌∙◌, ◌++◌, ℕ, zero, suc, List, [], ◌∷◌, length, map, codes, slice_get, slice_index, Some, None, refl, sym, ap, subst, arith}
+use Rattle.std.proofs.Common.{◌≡◌, ◌<◌, ◌≤◌, ◌+◌, ◌%◌, ◌^◌, ◌∙◌, ◌++◌, ℕ, List, [], ◌∷◌, map, codes, slice_get, slice_index, Some, sym, ap, arith}
 use Rattle.std.specs.List.{AllByRecursion as Each}
 use Rattle.std.specs.Option.{unwrap_or}
 use Rattle.std.proofs.lemmas.Option.{none-some}
@@ -9,11 +9,10 @@ use Rattle.elf_build.specs.declared.plan.Plan.{Plan}
 use Rattle.elf_build.specs.declared.plan.PlanKey.{PlanKey}
 use Rattle.elf_build.specs.declared.plan.KeyStart.TheVariants.{Count, Func}
 use Rattle.elf_build.specs.File.{file_of, key_at, start_bytes}
-use Rattle.elf_build.specs.Generated.{IsGenerated, fa, fb, key, keys as plan_keys}
+use Rattle.elf_build.specs.Generated.{IsGenerated, key}
 use Rattle.written_module.specs.Written.{ReadsBack}
 use Rattle.module_image.specs.declared.entry.Entry.{Entry}
 use Rattle.module_image.specs.declared.key.Key.{Key}
-use Rattle.module_image.specs.declared.key.KeyClass.{KeyClass}
 use Rattle.module_image.specs.declared.key.KeyClass.TheVariants.{Jump, Call}
 use Rattle.module_image.specs.Keys.{IsUnloaded, gathered, key_addresses, key_of, keys, loaded_after, loaded_number, start_of}
 use Rattle.module_image.specs.Refusals.{HasBadState, IsKeyOutside}
@@ -113,10 +112,10 @@ module _ (n : ℕ) (few : 10 ≤ n) (plan : Plan) (made : IsGenerated n plan) (b
   keys-inside = (
     loaded-inside elf.sections 0x451000 (start_bytes (Count 0)) first,
     (
-    loaded-inside elf.sections 0x451010 (start_bytes (Count 1)) second,
-    (
-    loaded-inside elf.sections 0x451020 (start_bytes (Func 0x401000)) third,
-    (loaded-inside elf.sections 0x451030 (start_bytes (Func 0x401004)) fourth, tt),
-    ),
+      loaded-inside elf.sections 0x451010 (start_bytes (Count 1)) second,
+      (
+        loaded-inside elf.sections 0x451020 (start_bytes (Func 0x401000)) third,
+        (loaded-inside elf.sections 0x451030 (start_bytes (Func 0x401004)) fourth, tt),
+      ),
     ),
   )

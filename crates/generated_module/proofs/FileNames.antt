@@ -1,23 +1,21 @@
 -- What the names of a generated module stand for.
-use Rattle.std.proofs.Common.{◌≡◌, ◌≢◌, ◌<◌, ◌≤◌, ◌+◌, ◌∙◌, ◌++◌, ◌==◌, ◌&&◌, not, nat_lt, if◌then◌else◌, ℕ, zero, suc, Bool, true, false, List, [], ◌∷◌, length, map, codes, Some, refl, sym, ap, arith}
+use Rattle.std.proofs.Common.{◌≡◌, ◌<◌, ◌≤◌, ◌+◌, ◌∙◌, ◌++◌, ◌==◌, nat_lt, if◌then◌else◌, ℕ, zero, suc, false, List, [], ◌∷◌, length, map, codes, Some, refl, ap, arith}
 use Rattle.std.specs.List.{AllByRecursion as Each}
 use Rattle.std.proofs.lemmas.Bool.{ne_eqb}
-use Rattle.elf_module.specs.Elf.{Elf, SymbolRecord, symbols_of}
+use Rattle.elf_module.specs.Elf.{Elf, SymbolRecord}
 use Rattle.elf_build.specs.declared.generation.Block.{Block}
 use Rattle.elf_build.specs.declared.generation.Block.TheVariants.{FarSwitch, NearSwitch, Call as CallBlock, Trace as TraceBlock, TailCall}
 use Rattle.elf_build.specs.declared.plan.Plan.{Plan}
 use Rattle.elf_build.specs.declared.plan.PlanFunction.{PlanFunction}
-use Rattle.elf_build.specs.declared.plan.PlanKey.{PlanKey}
 use Rattle.elf_build.specs.File.{data_at, file_of}
 use Rattle.elf_build.specs.Generated.{IsGenerated, block_functions, block_len, block_of, blocks, functions_from as plan_functions_from, functions_of, keys as plan_keys}
 use Rattle.written_module.specs.Written.{ReadsBack, function_symbol, key_symbols_from, no_symbol}
 use Rattle.module_image.specs.declared.key.KeyClass.TheVariants.{Jump, Call}
 use Rattle.module_image.specs.Keys.{place_in}
-use Rattle.module_image.specs.Names.{Named, functions, functions_from, is_function, is_key, key_names, keys_from, tracer, tracer_name, value_of}
+use Rattle.module_image.specs.Names.{Named, functions, functions_from, key_names, keys_from, tracer, tracer_name, value_of}
 use Rattle.generated_module.specs.Accepted.{elf_of}
 use Rattle.generated_module.proofs.Each.{each-append}
 use Rattle.generated_module.proofs.Blocks.{Stands, stands-next}
-use Rattle.generated_module.proofs.KeyLists.{call_keys, jump_keys}
 use Rattle.generated_module.proofs.FileKeys.{call-addresses, jump-addresses}
 use Rattle.generated_module.proofs.FileSections.{index-is}
 

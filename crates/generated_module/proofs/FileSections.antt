@@ -1,23 +1,20 @@
 -- What is read of the file that is written of a generated module's plan: its text and its tables.
-use Rattle.std.proofs.Common.{◌≡◌, ◌≤◌, ◌+◌, ◌*◌, ◌%◌, ◌∙◌, ◌⊎◌, ◌++◌, inl, inr, ℕ, zero, suc, List, [], ◌∷◌, length, map, flat_map, filter, find, Some, refl, ap, arith}
+use Rattle.std.proofs.Common.{◌≡◌, ◌+◌, ◌%◌, ◌∙◌, ◌⊎◌, ◌++◌, inl, inr, ℕ, List, [], ◌∷◌, length, map, flat_map, filter, find, Some, refl, ap, arith}
 use Rattle.std.proofs.lemmas.List.{length-append}
-use Rattle.elf_module.specs.Elf.{Elf, sections_of}
+use Rattle.elf_module.specs.Elf.{Elf}
 use Rattle.elf_build.specs.declared.plan.Plan.{Plan}
 use Rattle.elf_build.specs.declared.plan.PlanSite.{PlanSite}
 use Rattle.elf_build.specs.declared.plan.PlanSite.TheVariants.{Jump, Call, Trace}
-use Rattle.elf_build.specs.declared.sections.Part.TheVariants.{Text, Entries}
+use Rattle.elf_build.specs.declared.sections.Part.TheVariants.{Text}
 use Rattle.elf_build.specs.declared.tables.PlanTable.TheVariants.{Jumps, Calls, Traces}
-use Rattle.elf_build.specs.File.{entry_bytes, file_of, parts, table_at, table_bytes, table_from}
-use Rattle.elf_build.specs.Generated.{IsGenerated, blocks, sites_from, sites_of, text_of}
-use Rattle.site_tables.specs.declared.entries.CallSite.{CallSite}
-use Rattle.site_tables.specs.declared.entries.JumpEntry.{JumpEntry}
+use Rattle.elf_build.specs.File.{entry_bytes, file_of, parts, table_at, table_from}
+use Rattle.elf_build.specs.Generated.{IsGenerated, blocks, text_of}
 use Rattle.site_tables.specs.declared.entries.TableKind.{TableKind}
 use Rattle.site_tables.specs.declared.entries.TableKind.TheVariants.{Jump as JumpTable, Call as CallTable, Trace as TraceTable}
 use Rattle.site_tables.specs.Entry.{entry_size}
 use Rattle.site_tables.specs.Found.{table_len}
 use Rattle.site_tables.specs.Tables.{content_of, table_in}
 use Rattle.written_module.specs.Written.{ReadsBack, call_of, jump_of, section_of_part, trace_of}
-use Rattle.module_image.specs.declared.entry.Entry.{Entry}
 use Rattle.module_image.specs.Entries.{base, base_of, bytes_of, call_entry, entries, file_text, index_of, is_text, jump_entry, text_index, text_section, text_sections, trace_entry}
 use Rattle.generated_module.specs.Accepted.{elf_of}
 use Rattle.generated_module.proofs.EntryLists.{calls_from, jumps_from, traces_from}

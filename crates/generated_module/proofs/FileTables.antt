@@ -1,5 +1,5 @@
 -- The tables of the file that is written of the plan.
-use Rattle.std.proofs.Common.{◌≡◌, ◌+◌, ◌*◌, ◌/◌, ◌%◌, ◌==◌, ◌∙◌, ◌++◌, ℕ, zero, suc, List, [], ◌∷◌, map, flat_map, refl, ap, arith}
+use Rattle.std.proofs.Common.{◌≡◌, ◌+◌, ◌*◌, ◌/◌, ◌%◌, ◌==◌, ◌∙◌, ◌++◌, ℕ, zero, suc, List, ◌∷◌, map, flat_map, refl, ap, arith}
 use Rattle.elf_build.specs.declared.generation.Block.{Block}
 use Rattle.elf_build.specs.declared.generation.Block.TheVariants.{FarSwitch, NearSwitch, Call as CallBlock, Trace as TraceBlock, TailCall}
 use Rattle.elf_build.specs.declared.plan.Plan.{Plan}
@@ -9,7 +9,7 @@ use Rattle.site_tables.specs.declared.entries.JumpEntry.{JumpEntry}
 use Rattle.site_tables.specs.declared.entries.CallSite.{CallSite}
 use Rattle.written_module.specs.Written.{call_of, jump_of, trace_of}
 use Rattle.module_image.specs.declared.entry.Entry.{Entry}
-use Rattle.module_image.specs.declared.entry.EntryKind.TheVariants.{Jump, Call, Tail, Trace}
+use Rattle.module_image.specs.declared.entry.EntryKind.TheVariants.{Jump, Call, Tail}
 use Rattle.module_image.specs.Entries.{call_entry, jump_entry, trace_entry}
 use Rattle.generated_module.proofs.EntryLists.{block_calls, block_jumps, block_traces, calls_from, jumps_from, traces_from}
 

@@ -1,5 +1,5 @@
 -- The plain instructions of a generated module are read where they stand.
-use Rattle.std.proofs.Common.{◌≡◌, ◌<◌, ◌≤◌, ◌+◌, ◌-◌, ◌%◌, ◌^◌, ◌∙◌, ◌++◌, ℕ, List, [], ◌∷◌, drop, Option, Some, None, Ok, option_map, refl, sym, ap, arith}
+use Rattle.std.proofs.Common.{◌≡◌, ◌<◌, ◌≤◌, ◌+◌, ◌-◌, ◌^◌, ◌∙◌, ℕ, List, [], ◌∷◌, drop, Option, Some, None, Ok, option_map, refl, sym, ap, arith}
 use Rattle.std.specs.Int.{w8, w32, to_le_bytes}
 use Rattle.std.proofs.lemmas.Option.{same_Some}
 use Rattle.insn_forms.specs.Displacement.{displacement, distance, leads}
@@ -10,7 +10,7 @@ use Rattle.insn_forms.specs.Spelling.{after}
 use Rattle.elf_build.specs.File.{lead}
 use Rattle.x64_subset.specs.declared.insn.AluOp.TheVariants.{Add}
 use Rattle.x64_subset.specs.declared.insn.Insn.TheVariants.{AluImm, Call as CallTo, Dec, Inc, Jcc32, Jmp8, MovImm, Out, Ret}
-use Rattle.x64_subset.specs.Reading.{Answer, read}
+use Rattle.x64_subset.specs.Reading.{read}
 use Rattle.x64_subset.proofs.Spelt.{IsReadOf}
 
 -- those that are the same anywhere

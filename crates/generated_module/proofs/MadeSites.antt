@@ -1,21 +1,18 @@
 -- What the sites of a generated module are, by what the file has at them.
-use Rattle.std.proofs.Common.{◌≡◌, ◌≢◌, ◌<◌, ◌≤◌, ◌⊎◌, inl, inr, ◌+◌, ◌-◌, ◌*◌, ◌/◌, ◌%◌, ◌==◌, ◌∙◌, ◌++◌, not, ℕ, zero, suc, Bool, false, List, [], ◌∷◌, length, map, take, drop, refl, ap, arith}
-use Rattle.std.proofs.lemmas.List.{length-append}
+use Rattle.std.proofs.Common.{◌≡◌, ◌≤◌, ◌+◌, ◌-◌, ◌/◌, ◌%◌, ◌==◌, ◌∙◌, ◌++◌, not, ℕ, zero, suc, Bool, false, List, [], ◌∷◌, length, map, take, drop, refl, ap, arith}
 use Rattle.elf_build.specs.declared.generation.Block.{Block}
 use Rattle.elf_build.specs.declared.generation.Block.TheVariants.{FarSwitch, NearSwitch, Call as CallBlock, Trace as TraceBlock, TailCall}
 use Rattle.elf_build.specs.File.{lead}
 use Rattle.elf_build.specs.Generated.{block_bytes, block_len, block_of, text_from}
 use Rattle.insn_forms.specs.Spelling.{spell}
 use Rattle.x64_subset.specs.Reading.{read}
-use Rattle.module_image.specs.declared.entry.Entry.{Entry}
-use Rattle.module_image.specs.declared.entry.EntryKind.TheVariants.{Jump as JumpEntry}
 use Rattle.module_image.specs.declared.site.Site.{Site}
 use Rattle.module_image.specs.declared.site.SiteKind.{SiteKind}
 use Rattle.module_image.specs.declared.site.SiteKind.TheVariants.{Jump, Call, Tail, Trace}
 use Rattle.module_image.specs.Entries.{answer_len, length_at}
 use Rattle.module_image.specs.Refusals.{IsBadLength, room_of}
-use Rattle.module_image.specs.Sites.{code_at, is_early, is_foreign, made, site_of}
-use Rattle.generated_module.proofs.Blocks.{Stands, block_made, drop-further, length-block, made_from, stands-next}
+use Rattle.module_image.specs.Sites.{is_early, is_foreign, made, site_of}
+use Rattle.generated_module.proofs.Blocks.{Stands, block_made, drop-further, made_from, stands-next}
 use Rattle.generated_module.proofs.EntryLists.{block_entry, entries_from}
 use Rattle.generated_module.proofs.KeyLists.{call_keys, jump_keys, key-place}
 

@@ -10,7 +10,7 @@ use Rattle.elf_build.specs.File.{file_of}
 use Rattle.elf_build.specs.Generated.{IsGenerated}
 use Rattle.written_module.proofs.ReadBack.{reads-back}
 use Rattle.module_image.specs.declared.refused.Refused.{Refused}
-use Rattle.module_image.specs.declared.refused.Refused.TheVariants.{TextCount, TextSize, Table, SiteCount, SiteOutside, SiteLength, SiteOverlap, KeyOutside, KeyState, NoReach, TracerMissing, Undecoded, BadTarget, EndFalls, NoMemory}
+use Rattle.module_image.specs.declared.refused.Refused.TheVariants.{NoMemory}
 use Rattle.module_image.specs.Refusals.{IsRefusal, IsRefusedFor, Passes, past_all}
 use Rattle.generated_module.specs.Accepted.{elf_of}
 use Rattle.generated_module.proofs.Accepting.{accepted}

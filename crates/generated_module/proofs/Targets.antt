@@ -1,5 +1,5 @@
 -- Where the units, sites and functions of a generated module lead: to where units begin.
-use Rattle.std.proofs.Common.{◌≡◌, ◌<◌, ◌≤◌, ◌+◌, ◌-◌, ◌^◌, ◌∙◌, ◌++◌, ◌⊎◌, inl, inr, nat_lt, if◌then◌else◌, ℕ, zero, suc, Bool, List, [], ◌∷◌, length, Option, Some, None, option_map, refl, sym, ap, subst, arith}
+use Rattle.std.proofs.Common.{◌≡◌, ◌<◌, ◌≤◌, ◌+◌, ◌^◌, ◌∙◌, ◌++◌, inl, inr, if◌then◌else◌, ℕ, zero, suc, Bool, List, [], ◌∷◌, length, Option, Some, None, option_map, refl, sym, ap, subst, arith}
 use Rattle.std.specs.List.{AllByRecursion as Each}
 use Rattle.std.specs.Int.{w8}
 use Rattle.std.proofs.lemmas.Bool.{le-ltb}
@@ -7,7 +7,7 @@ use Rattle.std.proofs.lemmas.Option.{none-some, same_Some}
 use Rattle.elf_build.specs.declared.generation.Block.{Block}
 use Rattle.elf_build.specs.declared.generation.Block.TheVariants.{FarSwitch, NearSwitch, Call as CallBlock, Trace as TraceBlock, TailCall}
 use Rattle.elf_build.specs.declared.plan.PlanFunction.{PlanFunction}
-use Rattle.elf_build.specs.Generated.{block_functions, block_len, block_of, blocks, first_functions, functions_from, functions_of}
+use Rattle.elf_build.specs.Generated.{block_functions, block_len, block_of, blocks, functions_from, functions_of}
 use Rattle.insn_forms.specs.declared.forms.Form.TheVariants.{Jmp8}
 use Rattle.insn_forms.specs.Displacement.{displacement, leads}
 use Rattle.insn_forms.specs.Spelling.{after, spell}
@@ -113,20 +113,19 @@ module _ (S : ℕ → Type 0) where
       (block-function b i at (all at (begins (suc left) i at))) (functions-start-from left (i + 1) later rest)
 
   pub functions-start : (n : ℕ) → ((x : ℕ) → Among x (pieces_of n) → S x) → Each (λ (f : PlanFunction). S f.at) (functions_of n)
-  functions-start n all =
-      (
-      all 0x401000 (inl refl),
-      (
+  functions-start n all = (
+    all 0x401000 (inl refl),
+    (
       all 0x401004 (inr (inr (inl refl))),
       (
-      all 0x401008 (inr (inr (inr (inr (inl refl))))),
-      (
-      all 0x40100c (inr (inr (inr (inr (inr (inr (inl refl))))))),
-      functions-start-from n 0 blocks (λ x there. all x (inr (inr (inr (inr (inr (inr (inr there)))))))),
+        all 0x401008 (inr (inr (inr (inr (inl refl))))),
+        (
+          all 0x40100c (inr (inr (inr (inr (inr (inr (inl refl))))))),
+          functions-start-from n 0 blocks (λ x there. all x (inr (inr (inr (inr (inr (inr (inr there)))))))),
+        ),
       ),
-      ),
-      ),
-      )
+    ),
+  )
 
 -- ---- the end
 

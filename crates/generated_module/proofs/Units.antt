@@ -1,5 +1,5 @@
 -- The units of a text whose sites were written: what begins at an address.
-use Rattle.std.proofs.Common.{◌≡◌, ◌<◌, ◌≤◌, ◌+◌, ◌-◌, ◌∙◌, ◌⊎◌, ◌++◌, ◌||◌, inl, inr, ℕ, Bool, true, false, List, length, take, drop, slice_get, Option, Some, None, Ok, refl, sym, ap, arith}
+use Rattle.std.proofs.Common.{◌≡◌, ◌<◌, ◌≤◌, ◌+◌, ◌-◌, ◌∙◌, ◌++◌, ◌||◌, inl, inr, ℕ, Bool, true, false, List, length, take, drop, slice_get, Option, Some, None, Ok, refl, sym, ap, arith}
 use Rattle.std.proofs.lemmas.Bool.{le-leb}
 use Rattle.std.proofs.Math.Seq.{take-append_seam}
 use Rattle.std.proofs.lemmas.List.{take-append-drop}
