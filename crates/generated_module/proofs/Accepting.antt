@@ -11,10 +11,12 @@ use Rattle.elf_build.specs.declared.plan.PlanFunction.{PlanFunction}
 use Rattle.elf_build.specs.declared.sections.Part.TheVariants.{Text}
 use Rattle.elf_build.specs.File.{file_of}
 use Rattle.elf_build.specs.Generated.{IsGenerated, block_bytes, block_len, block_of, blocks, functions_of, text_from, text_of}
+use Rattle.elf_build.proofs.Generates.{generated-fits}
 use Rattle.site_tables.specs.declared.entries.TableKind.{TableKind}
 use Rattle.site_tables.specs.declared.entries.TableKind.TheVariants.{Jump as JumpTable, Call as CallTable, Trace as TraceTable}
 use Rattle.site_tables.specs.Found.{IsFirstBadTable}
 use Rattle.written_module.specs.Written.{ReadsBack, section_of_part}
+use Rattle.written_module.proofs.ReadBack.{reads-back}
 use Rattle.module_image.specs.declared.entry.Entry.{Entry}
 use Rattle.module_image.specs.declared.key.Key.{Key}
 use Rattle.module_image.specs.declared.key.KeyClass.TheVariants.{Jump as JumpKey, Call as CallKey}
@@ -38,8 +40,6 @@ use Rattle.module_image.proofs.SiteLaws.{few_sites, sites_apart_passed}
 use Rattle.module_image.proofs.Sound.{call_lens_passed, inside_passed}
 use Rattle.module_image.proofs.TextLength.{length_text}
 use Rattle.module_image.proofs.WrittenSites.{sites_kept}
-use Rattle.elf_build.proofs.Generates.{generated-fits}
-use Rattle.written_module.proofs.ReadBack.{reads-back}
 use Rattle.generated_module.specs.Accepted.{GeneratedAreAccepted, elf_of}
 use Rattle.generated_module.proofs.Each.{each-append, each-at, each-more, none-each}
 use Rattle.generated_module.proofs.Pieces.{Among, Chain, PieceAt, ends, known, piece-at, starts}
@@ -57,6 +57,7 @@ use Rattle.generated_module.proofs.Targets.{LeadsTo, all-lead, all-reach, ends-w
 
 -- ---- how long the text is
 
+-- a block has at most twelve bytes
 block-most : (b : Block) → block_len b ≤ 12
 block-most FarSwitch = omega arith
 block-most NearSwitch = omega arith
@@ -64,6 +65,7 @@ block-most CallBlock = omega arith
 block-most TraceBlock = omega arith
 block-most TailCall = omega arith
 
+-- so the blocks that are left, with what stands after them, have at most so many
 text-most : (left i at : ℕ) → length (text_from left i at) ≤ 12 * left + 11
 text-most zero i at = omega arith
 text-most (suc left) i at =
@@ -91,6 +93,7 @@ module _ (n : ℕ) (few : 10 ≤ n) (many : n ≤ 1000) (plan : Plan) (made : Is
   stands : Stands 0x401000 (text_of n) n 0 blocks
   stands = first-stands n many
 
+  -- the sites are those of the blocks, in order
   pub found-sites : sites elf ≡ made_from n 0 blocks
   found-sites =
       let base_is = base-is n plan made back in
@@ -109,6 +112,7 @@ module _ (n : ℕ) (few : 10 ≤ n) (many : n ≤ 1000) (plan : Plan) (made : Is
 
   -- ---- the conditions on tables, entries and sites
 
+  -- the text has bytes, and not too many
   bad-text : (size : ℕ) → IsBadText (text_section elf) size → ⊥
   bad-text size bad =
       let there : HasBadSize (section_of_part plan 1 Text) × (size ≡ length plan.text.items) =
@@ -125,16 +129,19 @@ module _ (n : ℕ) (few : 10 ≤ n) (many : n ≤ 1000) (plan : Plan) (made : Is
         ]
       ]
 
+  -- the tables are whole entries
   bad-table : (kind : TableKind) → IsFirstBadTable elf.sections kind → ⊥
   bad-table JumpTable bad = bad (whole-tables n plan made back JumpTable)
   bad-table CallTable bad = bad.1 (whole-tables n plan made back CallTable)
   bad-table TraceTable bad = bad.2 (whole-tables n plan made back TraceTable)
 
+  -- there are as many entries as blocks
   count-is : length (entries elf) ≡ n
   count-is =
       sym (few_sites (site_of (base elf) (file_text elf) (key_addresses elf JumpKey) (key_addresses elf CallKey)) (entries elf))
       ∙ ap (λ (ss : List Site). length ss) found-sites ∙ length-made n 0 blocks
 
+  -- what holds of each block's entry holds of each entry
   each-entry : (P : Entry → Type 0) → ((left i at : ℕ) → Stands 0x401000 (text_of n) (suc left) i at → P (block_entry (block_of i) i at)) → Each P (entries elf)
   each-entry P has =
       let js = jumps_from n 0 blocks in
@@ -143,6 +150,7 @@ module _ (n : ℕ) (few : 10 ≤ n) (many : n ≤ 1000) (plan : Plan) (made : Is
       let all = each-append P js (cs ++ ts) (each-standing block_jumps jump-table P 0x401000 (text_of n) has n 0 blocks stands) (each-append P cs ts (each-standing block_calls call-table P 0x401000 (text_of n) has n 0 blocks stands) (each-standing block_traces trace-table P 0x401000 (text_of n) has n 0 blocks stands)) in
       subst (Each P) (sym (entries-are n plan made back)) all
 
+  -- each lies in the text
   none-outside : HasNone (IsOutside elf) (entries elf)
   none-outside =
       let P : Entry → Type 0 = λ (e : Entry). IsOutsideOf 0x401000 (length (text_of n)) e → ⊥ in
@@ -154,6 +162,7 @@ module _ (n : ℕ) (few : 10 ≤ n) (many : n ≤ 1000) (plan : Plan) (made : Is
       let text_is = file-text-is n plan made back in
       none-each (IsOutside elf) (entries elf) (each-more P (λ (e : Entry). IsOutside elf e → ⊥) (entries elf) (λ e not out. not (subst (λ (at : ℕ). IsOutsideOf at (length (text_of n)) e) base_is (subst (λ (bytes : List ℕ). IsOutsideOf (base elf) (length bytes) e) text_is out))) each)
 
+  -- each jump has two or five bytes
   none-long : HasNone (HasBadLength elf) (entries elf)
   none-long =
       let base_is = base-is n plan made back in
@@ -162,6 +171,7 @@ module _ (n : ℕ) (few : 10 ≤ n) (many : n ≤ 1000) (plan : Plan) (made : Is
       let each : Each (P 0x401000 (text_of n)) (entries elf) = each-entry (P 0x401000 (text_of n)) (good-length 0x401000 (text_of n)) in
       none-each (HasBadLength elf) (entries elf) (each-more (P 0x401000 (text_of n)) (P (base elf) (file_text elf)) (entries elf) (λ e not bad. not (subst (λ (at : ℕ). IsBadLength (length_at at (text_of n) e.at) e.kind) base_is (subst (λ (bytes : List ℕ). IsBadLength (length_at (base elf) bytes e.at) e.kind) text_is bad))) each)
 
+  -- no site begins before the one before it ends
   no-overlaps : overlap_after 0 (sites elf) ≡ None
   no-overlaps = ap (overlap_after 0) found-sites ∙ no-overlap n 0 blocks 0 (omega arith)
 
@@ -181,12 +191,14 @@ module _ (n : ℕ) (few : 10 ≤ n) (many : n ≤ 1000) (plan : Plan) (made : Is
 
   -- ---- the text
 
+  -- the text with its sites
   abbrev swept : Layout
   swept = laid 0x401000 (text elf) (made_from n 0 blocks)
 
   layout-is : layout elf ≡ swept
   layout-is = (let base_is = base-is n plan made back in let sites_are = found-sites in λ i. laid (base_is i) (text elf) (sites_are i))
 
+  -- it is the file's, but for the bytes of the sites
   written-file : IsWritten (layout elf) (file_text elf)
   written-file =
       let same = length_text elf early-passes in
@@ -208,6 +220,7 @@ module _ (n : ℕ) (few : 10 ≤ n) (many : n ≤ 1000) (plan : Plan) (made : Is
   short-text : length (text_of n) ≤ 0xf000
   short-text = (let small = stands.small in omega (arith, small))
 
+  -- its units
   chained : Chain swept 0x401000 (pieces_of n)
   chained = chain-of n (text elf) written-text short-text
 
@@ -261,6 +274,7 @@ module _ (n : ℕ) (few : 10 ≤ n) (many : n ≤ 1000) (plan : Plan) (made : Is
       subst (λ (ns : List Named). Each (λ (a : Aim). IsStart swept a.to) (function_aims ns)) (sym (functions-are n few plan made back))
       (named-start (functions_of n) (functions-start (IsStart swept) n is-start))
 
+  -- nothing leads astray
   no-bad : (aim : Aim) → IsFirstBadOf swept (jump_aims (sites elf)) (key_aims (keys elf)) (function_aims (functions elf)) aim → ⊥
   no-bad aim (of_plain bad) = bad.bad (plain-leads aim bad.is)
   no-bad aim (of_jumps plain bad) = not-first (jump_aims (sites elf)) aim jumps-lead bad
@@ -269,6 +283,7 @@ module _ (n : ℕ) (few : 10 ≤ n) (many : n ≤ 1000) (plan : Plan) (made : Is
 
   -- ---- all of them
 
+  -- each key's bytes are loaded, no count is negative, and each jump of two bytes reaches its target
   none-unloaded : HasNone (IsKeyOutside elf) (keys elf)
   none-unloaded =
       subst (λ (ks : List Key). HasNone (IsKeyOutside elf) ks) (sym (keys-are n few plan made back)) (none-each (IsKeyOutside elf) made_keys (keys-inside n few plan made back))
@@ -280,6 +295,7 @@ module _ (n : ℕ) (few : 10 ≤ n) (many : n ≤ 1000) (plan : Plan) (made : Is
   none-far =
       subst (λ (ss : List Site). HasNone IsOutOfReach ss) (sym found-sites) (none-each IsOutOfReach (made_from n 0 blocks) (all-reach 0x401000 (text_of n) n 0 blocks stands))
 
+  -- no condition holds
   refuted : (why : Refused) → order why < past_all → Holds elf why → ⊥
   refuted (KeyOutside at) before holds = none_first (IsKeyOutside elf) (keys elf) holds.0 none-unloaded holds.1
   refuted (KeyState at) before holds = none_first HasBadState (keys elf) holds.0 none-negative holds.1

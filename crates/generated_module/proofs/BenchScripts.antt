@@ -1,10 +1,10 @@
 -- The script of a bench is read, line by line, in a module whose names stand for what they do in a generated one.
 use Rattle.std.proofs.Common.{◌≡◌, ◌≤◌, ◌+◌, ◌∙◌, ℕ, List, [], ◌∷◌, take, codes, Some, Result, Ok, refl, ap}
 use Rattle.poke_base.specs.Text.{words}
-use Rattle.elf_build.proofs.Generates.{generated-fits}
 use Rattle.elf_build.specs.declared.plan.Plan.{Plan}
 use Rattle.elf_build.specs.File.{file_of}
 use Rattle.elf_build.specs.Generated.{IsGenerated, main, text_of}
+use Rattle.elf_build.proofs.Generates.{generated-fits}
 use Rattle.written_module.proofs.ReadBack.{reads-back}
 use Rattle.module_image.specs.Module.{IsModule, Module}
 use Rattle.module_image.specs.Names.{value_of}
@@ -36,6 +36,7 @@ next : (m : Module) (n : ℕ) (s more : ScriptValue) (line : List ℕ) (rest : L
 next m n s more line rest is = ap (λ (r : Result ScriptValue ScriptWhy). go_on n r (λ s. read_from m (n + 1) s rest)) is
 
 module _ (m : Module) (has : HasNames m) where
+  -- each line is taken after those before it
   first-cpu : taken m empty_script (words (codes "cpu main")) ≡ Ok one_cpu
   first-cpu = rw has.main_is refl
 

@@ -37,12 +37,14 @@ block-within CallBlock i at = omega arith
 block-within TraceBlock i at = omega arith
 block-within TailCall i at = omega arith
 
+-- none begins before the first block that is left
 pub made-after : (left i at low : ℕ) → low ≤ at → Each (λ (s : Site). low ≤ s.at) (made_from left i at)
 made-after zero i at low le = tt
 made-after (suc left) i at low le =
     let here = block-after (block_of i) i at in
     (omega (arith, here, le), made-after left (i + 1) (at + block_len (block_of i)) low (omega (arith, le)))
 
+-- none is foreign
 pub made-own : (left i at : ℕ) → Each (λ (s : Site). s.foreign ≡ false) (made_from left i at)
 made-own zero i at = tt
 made-own (suc left) i at = (own (block_of i), made-own left (i + 1) (at + block_len (block_of i)))
@@ -77,6 +79,7 @@ pub record Stands (base : ℕ) (file : List ℕ) (left i at : ℕ) : Type 0 wher
   pub whole : at + length (text_from left i at) ≡ base + length file
   pub small : base + length file ≤ 0x410000
 
+-- and so do those after the next one
 pub stands-next : (base : ℕ) (file : List ℕ) (left i at : ℕ) → Stands base file (suc left) i at → Stands base file left (i + 1) (at + block_len (block_of i))
 stands-next base file left i at st =
     let b = block_of i in

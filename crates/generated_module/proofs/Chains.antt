@@ -29,6 +29,7 @@ abbrev pub end_pieces : ℕ → List Piece
 end_pieces at =
     plain at 2 (Dec 1) ∷ plain (at + 2) 6 (Jcc32 5 blocks) ∷ plain (at + 8) 2 (Out 16) ∷ plain (at + 10) 1 Ret ∷ []
 
+-- those of the blocks that are left and of what stands after them, and all of them
 abbrev pub pieces_from : ℕ → ℕ → ℕ → List Piece
 pieces_from zero i at = end_pieces at
 pieces_from (suc left) i at = block_pieces (block_of i) i at ++ pieces_from left (i + 1) (at + block_len (block_of i))
@@ -45,6 +46,7 @@ pieces_of n = head_pieces ++ pieces_from n 0 blocks
 abbrev pub IsBeside : ℕ → ℕ → Site → Site → Type 0
 IsBeside low high own s = (s.at + s.len ≤ low) ⊎ ((high ≤ s.at) ⊎ (s ≡ own))
 
+-- it has none of the bytes that its own block has elsewhere
 off-beside : (low high : ℕ) (own : Site) (at len : ℕ) → low ≤ at → at + len ≤ high → IsOff at len own → (s : Site) → IsBeside low high own s → IsOff at len s
 off-beside low high own at len from to off s (inl before) = inr (omega (arith, before, from))
 off-beside low high own at len from to off s (inr (inl after)) = inl (omega (arith, after, to))
@@ -123,6 +125,7 @@ pub record IsPlaced (t : Layout) (file : List ℕ) (left i at : ℕ) : Type 0 wh
   pub split : t.sites ≡ earlier ++ made_from left i at
   pub before : Each (λ (s : Site). s.at + s.len ≤ at) earlier
 
+-- and so do those after the next one
 placed-next : (t : Layout) (file : List ℕ) (left i at : ℕ) → IsPlaced t file (suc left) i at → IsPlaced t file left (i + 1) (at + block_len (block_of i))
 placed-next t file left i at p =
     let own = block_made (block_of i) i at in
@@ -142,6 +145,7 @@ at-seam : {A : Type 0} (xs : List A) (y : A) (ys : List A) → slice_get (xs ++ 
 at-seam [] y ys = refl
 at-seam (x ∷ xs) y ys = at-seam xs y ys
 
+-- each site is beside the next block
 beside : (t : Layout) (file : List ℕ) (left i at : ℕ) → IsPlaced t file (suc left) i at → Each (IsBeside at (at + block_len (block_of i)) (block_made (block_of i) i at)) t.sites
 beside t file left i at p =
     let own = block_made (block_of i) i at in
@@ -151,6 +155,7 @@ beside t file left i at p =
     let back = each-more (λ (s : Site). later ≤ s.at) P (made_from left (i + 1) later) (λ s le. inr (inl le)) (made-after left (i + 1) later later (omega arith)) in
     subst (Each P) (sym p.split) (each-append P p.earlier (own ∷ made_from left (i + 1) later) front (inr (inr refl), back))
 
+-- the units from the next block on
 pub chain-from : (t : Layout) (file : List ℕ) → IsWritten t file → (left i at : ℕ) → IsPlaced t file left i at → Chain t at (pieces_from left i at)
 chain-from t file is zero i at p =
     let whole = p.stands.whole in

@@ -61,6 +61,7 @@ module _ (n : ℕ) (few : 10 ≤ n) (plan : Plan) (made : IsGenerated n plan) (b
   abbrev elf : Elf
   elf = elf_of (file_of plan)
 
+  -- the addresses that the entries name
   pub jump-addresses : key_addresses elf Jump ≡ jump_keys
   jump-addresses = ap (λ (es : List Entry). gathered Jump es []) (entries-are n plan made back) ∙ jump-keys-are n few
 
@@ -93,6 +94,7 @@ module _ (n : ℕ) (few : 10 ≤ n) (plan : Plan) (made : IsGenerated n plan) (b
       let base = made.base in
       key-bytes 3 0x451030 (key (codes "cb") (Func 0x401004)) (ap (λ (ks : List PlanKey). slice_get ks 3) made.keys_are) (omega (arith, base)) (omega arith)
 
+  -- the keys
   pub keys-are : keys elf ≡ made_keys
   keys-are =
       let s = elf.sections in

@@ -74,6 +74,7 @@ module _ (n : ℕ) (few : 10 ≤ n) (plan : Plan) (made : IsGenerated n plan) (b
   abbrev elf : Elf
   elf = elf_of (file_of plan)
 
+  -- the symbols: functions, then keys
   symbols-are : elf.symbols ≡ no_symbol ∷ (map function_symbol (functions_of n) ++ key_symbols)
   symbols-are =
       let base = made.base in
@@ -88,6 +89,7 @@ module _ (n : ℕ) (few : 10 ≤ n) (plan : Plan) (made : IsGenerated n plan) (b
       let index = index-is n plan made back in
       (λ i. functions_from (index i) (symbols-are i)) ∙ functions-named (functions_of n) key_symbols
 
+  -- the function that traced sites call
   pub tracer-is : tracer elf ≡ Some 0x401008
   tracer-is = ap (value_of tracer_name) functions-are
 

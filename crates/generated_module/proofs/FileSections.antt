@@ -48,6 +48,7 @@ whole-eight entry each field (site ∷ sites) =
       | inr none ↦ omega (arith, none, sum, whole)
     ]
 
+-- the entries of each table
 jump-size : (plan : Plan) (field : ℕ) (site : PlanSite) → (length (entry_bytes Jumps plan field site) ≡ 16) ⊎ (length (entry_bytes Jumps plan field site) ≡ 0)
 jump-size plan field (Jump at target key likely) = inl refl
 jump-size plan field (Call at key tail) = inr refl
@@ -74,6 +75,7 @@ module _ (n : ℕ) (plan : Plan) (made : IsGenerated n plan) (back : ReadsBack p
   unfolding parts
   text-is = ap (find is_text) back.sections
 
+  -- there is one, at its address and with the bytes of the plan
   pub one-text : length (text_sections elf) ≡ 1
   unfolding parts
   one-text = ap (λ (ss : List _). length (filter is_text ss)) back.sections

@@ -26,6 +26,7 @@ kept : (class : KeyClass) (es : List Entry) (keys : List ℕ) → Each (IsKept c
 kept class [] keys all = refl
 kept class (e ∷ es) keys all = ap (gathered class es) all.0 ∙ kept class es keys all.1
 
+-- the keys of two lists of entries
 gathered-append : (class : KeyClass) (es more : List Entry) (keys : List ℕ) → gathered class (es ++ more) keys ≡ gathered class more (gathered class es keys)
 gathered-append class [] more keys = refl
 gathered-append class (e ∷ es) more keys = gathered-append class es more (with_named (key_in class e.kind) keys)
@@ -80,6 +81,7 @@ eleventh = blocks + 66
 abbrev pub all_entries : ℕ → List Entry
 all_entries n = jumps_from n 0 blocks ++ (calls_from n 0 blocks ++ traces_from n 0 blocks)
 
+-- the first ten blocks name both keys of jumps and both of calls
 jumps-gathered : (m : ℕ) → gathered Jump (all_entries (suc (suc (suc (suc (suc (suc (suc (suc (suc (suc m))))))))))) [] ≡ jump_keys
 jumps-gathered m =
     let n = suc (suc (suc (suc (suc (suc (suc (suc (suc (suc m))))))))) in

@@ -91,6 +91,7 @@ room CallBlock i at = omega arith
 room TraceBlock i at = omega arith
 room TailCall i at = omega arith
 
+-- and so it is in the text
 pub room-inside : (base : ℕ) (file : List ℕ) (left i at : ℕ) → Stands base file (suc left) i at → (block_entry (block_of i) i at).at + room_of (block_entry (block_of i) i at).kind ≤ base + length file
 room-inside base file left i at st =
     let fits = room (block_of i) i at in

@@ -29,6 +29,7 @@ abbrev pub Among : ℕ → List Piece → Type 0
 Among b [] = ⊥
 Among b (p ∷ ps) = (p.at ≡ b) ⊎ Among b ps
 
+-- they begin before the end
 pub chain-end : (t : Layout) (a : ℕ) (ps : List Piece) → Chain t a ps → a ≤ text_end t
 chain-end t a [] chain = omega (arith, chain)
 chain-end t a (p ∷ ps) chain = (let rest = chain-end t (a + p.len) ps chain.2 in omega (arith, rest))

@@ -88,6 +88,7 @@ module _ (base : ℕ) (text jumps calls : List ℕ) where
       let rest = each-append P (map made cs) (map made ts) (later-sites (at + 12) x low cs c) (later-sites (at + 12) x low ts t) in
       first-of x (map made js) (map made cs ++ map made ts) (later-sites (at + 12) x low js j) (weaker x (map made cs ++ map made ts) rest)
 
+  -- the sites of the three tables, sorted, are those of the blocks
   pub in-order : (left i at : ℕ) → ascending (map made (jumps_from left i at) ++ (map made (calls_from left i at) ++ map made (traces_from left i at))) ≡ map made (entries_from left i at)
   in-order zero i at = refl
   in-order (suc left) i at =

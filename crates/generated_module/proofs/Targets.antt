@@ -34,6 +34,7 @@ begins : (left i at : ℕ) → Among at (pieces_from left i at)
 begins zero i at = inl refl
 begins (suc left) i at = begins-block (block_of i) i at (pieces_from left (i + 1) (at + block_len (block_of i)))
 
+-- one of the later units
 among-later : (ps qs : List Piece) (b : ℕ) → Among b qs → Among b (ps ++ qs)
 among-later [] qs b there = there
 among-later (p ∷ ps) qs b there = inr (among-later ps qs b there)
@@ -42,6 +43,7 @@ among-later (p ∷ ps) qs b there = inr (among-later ps qs b there)
 abbrev pub LeadsTo : (ℕ → Type 0) → Piece → Type 0
 LeadsTo S p = (to : ℕ) → p.target ≡ Some to → S to
 
+-- what leads nowhere, and what leads to an address with the property
 nowhere : (S : ℕ → Type 0) (o : Option ℕ) → o ≡ None → (to : ℕ) → o ≡ Some to → S to
 nowhere S o none to is = absurd (none-some to (sym none ∙ is))
 
@@ -50,6 +52,7 @@ somewhere S o at has there to is = subst S (same_Some at to (sym there ∙ is)) 
 
 -- where each address at which a unit begins has it, so does each address to which a unit leads
 module _ (S : ℕ → Type 0) where
+  -- the units of a block, and all of them
   block-leads : (b : Block) (i at : ℕ) (ps : List Piece) → ((x : ℕ) → Among x (block_pieces b i at ++ ps) → S x) → S (at + block_len b) → Each (LeadsTo S) ps → Each (LeadsTo S) (block_pieces b i at ++ ps)
   block-leads FarSwitch i at ps all later rest = (nowhere S None refl, (nowhere S None refl, rest))
   block-leads NearSwitch i at ps all later rest = (nowhere S None refl, (nowhere S None refl, rest))
@@ -129,6 +132,7 @@ module _ (S : ℕ → Type 0) where
 
 -- ---- the end
 
+-- the last of later units is the last
 ends-later : (ps qs : List Piece) → EndsWell qs → EndsWell (ps ++ qs)
 ends-later [] qs well = well
 ends-later (p ∷ ps) qs well = ends-more p (ps ++ qs) (ends-later ps qs well)
@@ -138,6 +142,7 @@ ends-from zero i at = refl
 ends-from (suc left) i at =
     ends-later (block_pieces (block_of i) i at) (pieces_from left (i + 1) (at + block_len (block_of i))) (ends-from left (i + 1) (at + block_len (block_of i)))
 
+-- the last unit is a return
 pub ends-well : (n : ℕ) → EndsWell (pieces_of n)
 ends-well n = ends-later head_pieces (pieces_from n 0 blocks) (ends-from n 0 blocks)
 

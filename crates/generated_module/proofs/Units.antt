@@ -43,6 +43,7 @@ no-site t file is at len long off (Some i) found =
       | inr after ↦ absurd (omega (arith, after, same, some))
     ]
 
+-- one of two tests passes
 or-right : (a b : Bool) → b ≡ true → (a || b) ≡ true
 or-right true b is = refl
 or-right false b is = is
@@ -51,6 +52,7 @@ or-left : (a b : Bool) → a ≡ true → (a || b) ≡ true
 or-left true b is = refl
 or-left false b is = absurd (cc)
 
+-- a site without a byte among them is clear of them
 clear-off : (at len : ℕ) (s : Site) → IsOff at len s → is_clear at (at + len) s ≡ true
 clear-off at len s (inl before) = or-right s.foreign _ (or-right _ _ (le-leb (at + len) s.at before))
 clear-off at len s (inr after) = or-right s.foreign _ (or-left _ _ (le-leb s.at at (omega (arith, after))))

@@ -27,6 +27,7 @@ bench_steps =
     Run 100 ∷ Update (Inc 0) ∷ Update (TraceAll true) ∷ Run 100 ∷ Update (Target 2 fb) ∷ Update (Target 3 0) ∷ Update (Dec 1)
     ∷ Update (TraceAll false) ∷ Update (Target 2 0) ∷ Run 100 ∷ []
 
+-- with two starts in the function with the blocks
 abbrev pub bench_value : ScriptValue
 bench_value = record { entries = main ∷ main ∷ []; steps = bench_steps }
 
