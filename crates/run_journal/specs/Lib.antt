@@ -1,2 +1,5 @@
 pub mod Spelling
 pub mod Laws
+pub mod Parts
+pub mod ReaderState
+pub mod Reading
