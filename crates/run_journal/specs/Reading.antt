@@ -28,9 +28,9 @@ pub record ReadsEnd (old new : ReaderState) : Type 0 where
   pub taken : new.taken ≡ (if old.taken == 0 then 1 else old.taken)
 
 -- the lines of events that are still to be read, and how many lines are before them
-pub record IsPast (r : ReaderState) (lines : List ℕ) (before : ℕ) : Type 0 where
-  pub lines : HasLines r lines
-  pub before : before ≡ (if r.taken == 0 then 1 else r.taken)
+pub record IsPast (r : ReaderState) (text : List ℕ) (count : ℕ) : Type 0 where
+  pub lines : HasLines r text
+  pub before : count ≡ (if r.taken == 0 then 1 else r.taken)
 
 -- the number of the line that is read next: that of the header where it isn't there, and else that of an event's line
 abbrev pub bad_line : ReaderState → ℕ
