@@ -4,3 +4,4 @@ pub mod Splits
 pub mod CpuWords
 pub mod Codes
 pub mod Lines
+pub mod Journals

@@ -3,3 +3,4 @@ pub mod Laws
 pub mod Parts
 pub mod ReaderState
 pub mod Reading
+pub mod Journals
