@@ -1,5 +1,5 @@
 -- The lines of events, and their parts.
-use Rattle.std.proofs.Common.{◌≡◌, ℕ, ◌+◌, ◌<◌, ◌≤◌, ◌==◌, inl, inr, Bool, true, false, not, ◌&&◌, List, [], ◌∷◌, ◌++◌, length, Option, Some, None, refl, sym, ap, ◌∙◌, arith, append-nil, append_assoc, length-append}
+use Rattle.std.proofs.Common.{◌≡◌, ℕ, ◌<◌, ◌≤◌, ◌==◌, Bool, true, not, List, [], ◌∷◌, ◌++◌, length, Option, refl, sym, ap, ◌∙◌, arith, append_assoc, length-append}
 use Rattle.std.specs.List.{list_all}
 use Rattle.std.proofs.lemmas.Bool.{and_from, and_parts}
 use Rattle.std.proofs.lemmas.List.Folds.{list_all-append}
@@ -13,7 +13,7 @@ use Rattle.run_journal.specs.Spelling.{letter, cpu_of, bytes_of, cpu_word, bytes
 use Rattle.run_journal.specs.Laws.{HasLine, IsFetched}
 use Rattle.run_journal.specs.Parts.{BeginsWith, IsCode, IsCpu, IsSpacedFetch, IsSpelt, IsSplit, words_of}
 use Rattle.run_journal.proofs.Splits.{split_same}
-use Rattle.run_journal.proofs.Words.{in_word, is_word, is_word-decimal, is_word-encode_lower, length-decimal_cpu}
+use Rattle.run_journal.proofs.Words.{in_word, is_word-decimal, is_word-encode_lower, length-decimal_cpu}
 use Rattle.run_journal.proofs.Apart.{Parts, nothing, number, fetch, parts_of}
 
 -- ---- the words after a letter

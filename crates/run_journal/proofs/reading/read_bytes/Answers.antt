@@ -1,6 +1,5 @@
-use Rattle.std.proofs.Common.{◌∙◌, ap, arith, length, rules, sym}
+use Rattle.std.proofs.Common.{◌∙◌, ap, arith, length, sym}
 use Rattle.run_journal.proofs.Codes.{code_length, decoded, empty_code, is_code, no_code, no_upper, room}
-use Rattle.run_journal.specs.Parts.{IsCode}
 use Rattle.run_journal.proofs.reading.read_bytes.Goals as goal
 
 pub returns-then-len-gt9 : goal.returns-then-len-gt9

@@ -1,4 +1,3 @@
-use Rattle.std.proofs.Common.{◌∙◌, ap, sym}
 use Rattle.run_journal.proofs.Lines.{no_bytes_word, no_cpu_word}
 use Rattle.run_journal.proofs.reading.spaced_fetch.Goals as goal
 
