@@ -31,7 +31,7 @@ impl<'a> Model for Reader<'a> {
 }
 
 impl<'a> Reader<'a> {
-    ghost use Rattle.std.specs.Prelude.{◌≡◌, ◌==◌, if◌then◌else◌, ◌+◌, ◌<◌, length, None, Ok, IfOk, IfErr, IfSome, OnErr};
+    ghost use Rattle.std.specs.Prelude.{◌≡◌, ◌==◌, if◌then◌else◌, ◌+◌, ◌<◌, ◌^◌, length, None, Ok, IfOk, IfErr, IfSome, OnErr};
     ghost use Rattle.run_journal.specs.Reading.{at_start, HasLines, ReadsEvent, ReadsEnd, IsBad, IsPast};
 
     /// A reader at the beginning of a journal's text.
@@ -44,9 +44,10 @@ impl<'a> Reader<'a> {
         }
     }
 
-    /// How many lines were taken, the header among them.
+    /// How many lines were taken, the header among them. There is a number for one line more.
     pub fn line(&self) -> u64
-        ensures { result ≡ self.now.taken }
+        ensures taken { result ≡ self.now.taken }
+        ensures room { result + 1 < 2 ^ 64 }
     {
         self.taken
     }
@@ -77,6 +78,7 @@ impl<'a> Reader<'a> {
         ensures end { result ≡ Ok None → ReadsEnd self.old self.new }
         ensures bad { IfErr result (IsBad self.old) }
         ensures kept { OnErr result (self.new ≡ self.old) }
+        ensures shorter { IfOk result (λ found. IfSome found (λ _. length self.new.rest < length self.old.rest)) }
     {
         let (lines, taken) = self.past_header()?;
         if lines.is_empty() {
