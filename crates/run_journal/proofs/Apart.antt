@@ -15,24 +15,25 @@ use Rattle.run_journal.specs.declared.event.Event.{Event}
 use Rattle.run_journal.specs.declared.event.Event.TheVariants.{Begin, Write, Request, Take, Return, Plain, At, Handle, Tick}
 use Rattle.run_journal.specs.Spelling.{letter, cpu_of, bytes_of, cpu_word, bytes_word}
 use Rattle.run_journal.specs.Laws.{HasLine, LinesAreApart}
-use Rattle.run_journal.proofs.Words.{word_ends, is_word-decimal, is_word-encode_lower}
+use Rattle.run_journal.proofs.Words.{in_word, word_ends, is_word-decimal, is_word-encode_lower}
 
 -- one number for each decimal spelling
 decimal-same : (c d : ℕ) → c ≤ 15 → d ≤ 15 → decimal c ≡ decimal d → c ≡ d
 decimal-same c d few less e =
     same_Some _ _ (sym (dec_number-decimal c (omega arith)) ∙ ap dec_number e ∙ dec_number-decimal d (omega arith))
 
+-- bytes, as the decoder counts them
+pub are_bytes : (bytes : List ℕ) → All (λ byte. byte < 256) bytes → IsBytes bytes
+are_bytes bytes p i =
+    elim (cases_lt i (length bytes)) [
+      | inl inside ↦ All-get_or (λ byte. byte < 256) bytes i 0 inside p
+      | inr past ↦ rw (get_or_past bytes i 0 past) (omega arith)
+    ]
+
 -- one list of bytes for each hexadecimal spelling
 encode_lower-same : (bytes other : List ℕ) → All (λ byte. byte < 256) bytes → All (λ byte. byte < 256) other → encode_lower bytes ≡ encode_lower other → bytes ≡ other
 encode_lower-same bytes other p q e = go (decode_of-encode_lower bytes (are_bytes bytes p)) (decode_of-encode_lower other (are_bytes other q)) (ap decode_of e)
   where
-    are_bytes : (bytes : List ℕ) → All (λ byte. byte < 256) bytes → IsBytes bytes
-    are_bytes bytes all i =
-        elim (cases_lt i (length bytes)) [
-          | inl inside ↦ All-get_or (λ byte. byte < 256) bytes i 0 inside all
-          | inr past ↦ rw (get_or_past bytes i 0 past) (omega arith)
-        ]
-
     go : {x y : Result (List ℕ) FromHexError} → x ≡ Ok bytes → y ≡ Ok other → x ≡ y → bytes ≡ other
     go p q e = cc
 
@@ -50,12 +51,12 @@ spaced_twice word other rest =
     ap (λ l. 32 ∷ l) (append_assoc (word ++ 32 ∷ other) (10 ∷ []) rest ∙ append_assoc word (32 ∷ other) (10 ∷ rest))
 
 -- the parts of an event
-data Parts : Option ℕ → Option (List ℕ) → Type 0 where
+pub data Parts : Option ℕ → Option (List ℕ) → Type 0 where
   nothing : Parts None None
   number : (cpu : ℕ) → cpu ≤ 15 → Parts (Some cpu) None
   fetch : (cpu : ℕ) (bytes : List ℕ) → cpu ≤ 15 → All (λ byte. byte < 256) bytes → Parts (Some cpu) (Some bytes)
 
-parts_of : (e : Event) → HasLine e → Parts (cpu_of e) (bytes_of e)
+pub parts_of : (e : Event) → HasLine e → Parts (cpu_of e) (bytes_of e)
 parts_of Begin h = nothing
 parts_of Write h = nothing
 parts_of Request h = nothing
@@ -73,7 +74,7 @@ Same cpu bytes other others rest more = (cpu ≡ other) × (bytes ≡ others) ×
 number_number : (c d : ℕ) (rest more : List ℕ) → c ≤ 15 → d ≤ 15 → 32 ∷ (decimal c ++ 10 ∷ rest) ≡ 32 ∷ (decimal d ++ 10 ∷ more) → (c ≡ d) × (rest ≡ more)
 number_number c d rest more p q e =
     let tails : decimal c ++ 10 ∷ rest ≡ decimal d ++ 10 ∷ more = cc in
-    let ends = word_ends (decimal c) (decimal d) rest more 10 10 (is_word-decimal c p) (is_word-decimal d q) refl refl tails in
+    let ends = word_ends in_word (decimal c) (decimal d) rest more 10 10 (is_word-decimal c p) (is_word-decimal d q) refl refl tails in
     let after : 10 ∷ rest ≡ 10 ∷ more = ends.1 in
     (decimal-same c d p q ends.0, cc)
 
@@ -81,7 +82,7 @@ number_number c d rest more p q e =
 number_fetch : (c d : ℕ) (rest more : List ℕ) → c ≤ 15 → d ≤ 15 → 32 ∷ (decimal c ++ 10 ∷ rest) ≡ 32 ∷ (decimal d ++ 32 ∷ more) → ⊥
 number_fetch c d rest more p q e =
     let tails : decimal c ++ 10 ∷ rest ≡ decimal d ++ 32 ∷ more = cc in
-    let ends = word_ends (decimal c) (decimal d) rest more 10 32 (is_word-decimal c p) (is_word-decimal d q) refl refl tails in
+    let ends = word_ends in_word (decimal c) (decimal d) rest more 10 32 (is_word-decimal c p) (is_word-decimal d q) refl refl tails in
     let after : 10 ∷ rest ≡ 32 ∷ more = ends.1 in
     cc
 
@@ -89,10 +90,10 @@ fetch_fetch : (c d : ℕ) (v w rest more : List ℕ) → c ≤ 15 → d ≤ 15 �
     → 32 ∷ (decimal c ++ 32 ∷ (encode_lower v ++ 10 ∷ rest)) ≡ 32 ∷ (decimal d ++ 32 ∷ (encode_lower w ++ 10 ∷ more)) → (c ≡ d) × (v ≡ w) × (rest ≡ more)
 fetch_fetch c d v w rest more p q each all e =
     let tails : decimal c ++ 32 ∷ (encode_lower v ++ 10 ∷ rest) ≡ decimal d ++ 32 ∷ (encode_lower w ++ 10 ∷ more) = cc in
-    let ends = word_ends (decimal c) (decimal d) (encode_lower v ++ 10 ∷ rest) (encode_lower w ++ 10 ∷ more) 32 32 (is_word-decimal c p) (is_word-decimal d q) refl refl tails in
+    let ends = word_ends in_word (decimal c) (decimal d) (encode_lower v ++ 10 ∷ rest) (encode_lower w ++ 10 ∷ more) 32 32 (is_word-decimal c p) (is_word-decimal d q) refl refl tails in
     let first : 32 ∷ (encode_lower v ++ 10 ∷ rest) ≡ 32 ∷ (encode_lower w ++ 10 ∷ more) = ends.1 in
     let others : encode_lower v ++ 10 ∷ rest ≡ encode_lower w ++ 10 ∷ more = cc in
-    let last = word_ends (encode_lower v) (encode_lower w) rest more 10 10 (is_word-encode_lower v) (is_word-encode_lower w) refl refl others in
+    let last = word_ends in_word (encode_lower v) (encode_lower w) rest more 10 10 (is_word-encode_lower v) (is_word-encode_lower w) refl refl others in
     let after : 10 ∷ rest ≡ 10 ∷ more = last.1 in
     (decimal-same c d p q ends.0, encode_lower-same v w each all last.0, cc)
 
@@ -114,7 +115,7 @@ tails_tell _ _ _ _ rest more (fetch c v p each) (fetch d w q all) e =
     (ap Some same.0, ap Some same.1, same.2)
 
 -- the event of a letter, a number and bytes
-abbrev event_of : ℕ → Option ℕ → Option (List ℕ) → Event
+abbrev pub event_of : ℕ → Option ℕ → Option (List ℕ) → Event
 event_of letter cpu bytes =
     if letter == 98 then Begin
     else if letter == 119 then Write
@@ -126,7 +127,7 @@ event_of letter cpu bytes =
     else if letter == 104 then Handle (unwrap_or cpu 0)
     else Tick (unwrap_or cpu 0)
 
-event_of-parts : (e : Event) → event_of (letter e) (cpu_of e) (bytes_of e) ≡ e
+pub event_of-parts : (e : Event) → event_of (letter e) (cpu_of e) (bytes_of e) ≡ e
 event_of-parts Begin = refl
 event_of-parts Write = refl
 event_of-parts Request = refl

@@ -6,30 +6,31 @@ use Rattle.hex.specs.Hex.{encode_lower, encode_with, lower_digits}
 use Rattle.hex.proofs.HexLemmas.{length-encode_with}
 use Rattle.poke_base.specs.Number.{decimal}
 
+-- a byte of a word is no space and no line feed
 abbrev pub in_word : ℕ → Bool
 in_word byte = not (byte == 32) && not (byte == 10)
 
 abbrev pub is_word : List ℕ → Bool
 is_word bytes = list_all in_word bytes
 
--- what stands before the first byte that isn't in a word
-pub word_ends : (v w rest more : List ℕ) (m n : ℕ) → is_word v ≡ true → is_word w ≡ true → in_word m ≡ false → in_word n ≡ false
+-- what stands before the first byte that isn't inside
+pub word_ends : (inside : ℕ → Bool) (v w rest more : List ℕ) (m n : ℕ) → list_all inside v ≡ true → list_all inside w ≡ true → inside m ≡ false → inside n ≡ false
     → v ++ m ∷ rest ≡ w ++ n ∷ more → (v ≡ w) × (m ∷ rest ≡ n ∷ more)
-word_ends [] [] rest more m n p q here there e = (refl, e)
-word_ends [] (b ∷ w) rest more m n p q here there e =
+word_ends inside [] [] rest more m n p q here there e = (refl, e)
+word_ends inside [] (b ∷ w) rest more m n p q here there e =
     let same : m ≡ b = cc in
-    let inside : in_word b ≡ true = (and_parts (in_word b) (is_word w) q).0 in
-    let other : in_word m ≡ true = ap in_word same ∙ inside in
+    let in_front : inside b ≡ true = (and_parts (inside b) (list_all inside w) q).0 in
+    let other : inside m ≡ true = ap inside same ∙ in_front in
     absurd (cc)
-word_ends (a ∷ v) [] rest more m n p q here there e =
+word_ends inside (a ∷ v) [] rest more m n p q here there e =
     let same : n ≡ a = cc in
-    let inside : in_word a ≡ true = (and_parts (in_word a) (is_word v) p).0 in
-    let other : in_word n ≡ true = ap in_word same ∙ inside in
+    let in_front : inside a ≡ true = (and_parts (inside a) (list_all inside v) p).0 in
+    let other : inside n ≡ true = ap inside same ∙ in_front in
     absurd (cc)
-word_ends (a ∷ v) (b ∷ w) rest more m n p q here there e =
+word_ends inside (a ∷ v) (b ∷ w) rest more m n p q here there e =
     let same : a ≡ b = cc in
     let tails : v ++ m ∷ rest ≡ w ++ n ∷ more = cc in
-    let others = word_ends v w rest more m n (and_parts (in_word a) (is_word v) p).1 (and_parts (in_word b) (is_word w) q).1 here there tails in
+    let others = word_ends inside v w rest more m n (and_parts (inside a) (list_all inside v) p).1 (and_parts (inside b) (list_all inside w) q).1 here there tails in
     ((λ i. same i ∷ others.0 i), others.1)
 
 -- ---- numbers of processors

@@ -5,6 +5,7 @@ ghost use Rattle.arrayvec.specs.ArrayVec.{array_vec_len};
 ghost use Rattle.run_journal.specs.Spelling.{letter, cpu_of, bytes_of, cpu_word, bytes_word, event_line};
 
 use crate::Event;
+use crate::letters::{AT, BEGIN, HANDLE, PLAIN, REQUEST, RETURN, TAKE, TICK, WRITE};
 use poke_base::{Line, put_bytes, put_dec, put_text};
 
 /// The first line of a journal.
@@ -33,15 +34,15 @@ fn letter(event: &Event) -> u8
     ensures { result ≡ letter event.now }
 {
     match event {
-        Event::Begin => b'b',
-        Event::Write => b'w',
-        Event::Request => b's',
-        Event::Take(_) => b't',
-        Event::Return => b'r',
-        Event::Plain(_) => b'p',
-        Event::At(_, _) => b'a',
-        Event::Handle(_) => b'h',
-        Event::Tick(_) => b'i',
+        Event::Begin => BEGIN,
+        Event::Write => WRITE,
+        Event::Request => REQUEST,
+        Event::Take(_) => TAKE,
+        Event::Return => RETURN,
+        Event::Plain(_) => PLAIN,
+        Event::At(_, _) => AT,
+        Event::Handle(_) => HANDLE,
+        Event::Tick(_) => TICK,
     }
 }
 
