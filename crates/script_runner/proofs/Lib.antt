@@ -13,3 +13,5 @@ pub mod WorldFacts
 pub mod Done
 pub mod Looks
 pub mod Picked
+pub mod Ranges
+pub mod Chosen

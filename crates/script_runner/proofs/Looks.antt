@@ -136,7 +136,7 @@ finished_iff w s b is h = (
 -- ---- a fetch
 
 -- a processor found by its number
-found_is : (w : WorldSeen) (c i : ℕ) (kind : TurnKind) (x d : CpuState) → (turn : HasTurn w c kind) → i ≡ c → x ≡ get_or w.cpus i d → x ≡ turn.cpu
+pub found_is : (w : WorldSeen) (c i : ℕ) (kind : TurnKind) (x d : CpuState) → (turn : HasTurn w c kind) → i ≡ c → x ≡ get_or w.cpus i d → x ≡ turn.cpu
 found_is w c i kind x d turn place is = is ∙ ap (λ (n : ℕ). get_or w.cpus n d) place ∙ get_or_from_slice_get w.cpus c turn.cpu d turn.here
 
 pub at_inside : (w : WorldSeen) (c i : ℕ) (x d : CpuState) → IsWorld w → HasTurn w c kind.At → i ≡ c → x ≡ get_or w.cpus i d → Covers (window_shape w.text) x.proc.ip

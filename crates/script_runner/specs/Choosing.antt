@@ -1,17 +1,20 @@
 -- How a running machine chooses its next event.
-use Rattle.std.specs.Prelude.{◌≡◌, ◌&&◌, ℕ, min, not, if◌then◌else◌, List, [], ◌∷◌, ◌++◌, length, slice_get, Option, Some, None}
+use Rattle.std.specs.Prelude.{◌≡◌, ◌&&◌, ⊤, ℕ, min, nat_le, not, if◌then◌else◌, List, [], ◌∷◌, ◌++◌, length, slice_get, Option, Some, None}
 use Rattle.std.specs.List.{flat_map, range_with_len}
+use Rattle.cpu_core.specs.declared.turn.TurnKind.TheVariants as kind
 use Rattle.cpu_core.specs.Turn.{CpuState, kind_of}
 use Rattle.module_image.specs.Module.{Module}
 use Rattle.poke_batch.specs.Walk.{Walk, due_of, has_taken}
 use Rattle.run_journal.specs.declared.event.Event.{Event}
 use Rattle.run_journal.specs.declared.event.Event.TheVariants.{Begin, Write, Request, Take, Return, Plain, Handle, Tick}
 use Rattle.script_text.specs.declared.script.ScriptStep.{ScriptStep}
-use Rattle.switching.specs.Choice.{Choice, Chooser, Comes, Fetches, Takes, due_choices, handler_by, is_wait, most_idle, turn_of, words_after}
+use Rattle.switching.specs.Choice.{Choice, Chooser, Comes, Fetches, Takes, IsEventOf, drawn, due_choices, forced_or_drawn, handler_by, is_wait, most_idle, turn_of, words_after}
 use Rattle.switching.specs.Journal.{IsFinished}
 use Rattle.switching.specs.May.{has_turns, is_begun_next}
 use Rattle.script_runner.specs.declared.pick.Pick.{Pick}
 use Rattle.script_runner.specs.declared.pick.Pick.TheVariants as pick
+use Rattle.switching.specs.State.{State}
+use Rattle.script_runner.specs.Turns.{HasTurn}
 use Rattle.script_runner.specs.World.{WorldSeen, StandsFor, left}
 
 -- it stands for a machine that chooses, with words in this state
@@ -87,3 +90,26 @@ choices_found w = patch_found w ++ by_processor w (λ c x. taking_found w c x ++
 
 abbrev pub forced_found : WorldSeen → List Choice
 forced_found w = (patch_found w ++ by_processor w (taking_found w)) ++ by_processor w (handler_found w)
+
+-- what is chosen by what is found, and the state of the words after it was drawn
+abbrev pub chosen_found : WorldSeen → ℕ → Option (Choice × ℕ)
+chosen_found w words =
+    if nat_le most_idle w.idle then forced_or_drawn words (forced_found w) (choices_found w) else drawn words (choices_found w)
+
+abbrev pub picked_of : Option Pick → ℕ → Option (Choice × ℕ)
+picked_of None words = None
+picked_of (Some p) words = Some (choice_of p, words)
+
+-- where nothing is picked no word was drawn
+abbrev pub IsKept : Option Pick → ℕ → ℕ → Type 0
+IsKept None old new = new ≡ old
+IsKept (Some p) old new = ⊤
+
+-- a fetch is picked of a processor that stands at a patched site
+abbrev pub CanFetch : WorldSeen → Pick → Type 0
+CanFetch w p = (c : ℕ) → p ≡ pick.Fetch c → HasTurn w c kind.At
+
+-- the event that a pick is, and the words after its bytes were picked
+pub record MakesEvent (w : WorldSeen) (p : Pick) (e : Event) (old new : ℕ) : Type 0 where
+  pub event : (s : State) → StandsFor w s → IsEventOf w.image s (choice_of p) old e
+  pub words_are : new ≡ words_after (choice_of p) old

@@ -1,17 +1,27 @@
 //! The choice of the next event.
-ghost use Rattle.std.specs.Prelude.{◌≡◌};
+ghost use Rattle.std.specs.Prelude.{◌≡◌, ◌≤◌, length, map};
+ghost use Rattle.script_runner.specs.Choosing.{IsKept, choice_of, picked_of};
+ghost use Rattle.switching.specs.Choice.{drawn};
 
 use super::World;
-use crate::pick::Pick;
+use super::events::MOST_IDLE;
+use crate::Words;
+use crate::pick::{Pick, Picks, push_some};
 use cpu_core::TurnKind;
+use poke_base::CodeBytes;
 use poke_batch::Due;
+use run_journal::Event;
 
 impl World {
-    ghost use Rattle.std.specs.Prelude.{◌≡◌, ◌<◌, ◌++◌, if◌then◌else◌, [], ◌∷◌, length, map};
+    ghost use Rattle.std.specs.Prelude.{◌≡◌, ◌<◌, ◌++◌, if◌then◌else◌, [], ◌∷◌, length, map, MatchOption};
     ghost use Rattle.run_journal.specs.declared.event.Event.TheVariants.{Begin};
-    ghost use Rattle.switching.specs.Choice.{Comes};
+    ghost use Rattle.switching.specs.Choice.{Chooser, Comes, IsPicked};
+    ghost use Rattle.switching.specs.State.{State};
+    ghost use Rattle.cpu_core.specs.declared.turn.TurnKind.TheVariants as kind;
+    ghost use Rattle.script_runner.specs.Turns.{HasTurn};
+    ghost use Rattle.script_runner.specs.Choosing.{CanFetch, Chooses, IsKept, IsOver, MakesEvent, TakesNext, chosen_found, picked_of};
     ghost use Rattle.switching.specs.May.{is_begun_next};
-    ghost use Rattle.script_runner.specs.World.{left};
+    ghost use Rattle.script_runner.specs.World.{StandsFor, left};
     ghost use Rattle.script_runner.specs.Choosing.{by_number, by_processor, choice_of, choices_found, chosen_of, forced_found, handler_found, patch_found, taking_found, turn_found};
 
     /// The patch's event that may come.
@@ -84,4 +94,104 @@ impl World {
             TurnKind::Plain | TurnKind::At | TurnKind::Tick => None,
         }
     }
+
+    /// All that may come: the patch's event, then for each processor, ascending, its taking of a request and its turn.
+    fn picks(&self) -> Picks
+        ensures { map choice_of result.items ≡ choices_found self.now }
+    {
+        let cpus = self.cpus.len() as u8;
+        let mut picks = Picks::new();
+        push_some(&mut picks, self.patch_pick());
+        for cpu in 0..cpus {
+            push_some(&mut picks, self.taking_pick(cpu));
+            push_some(&mut picks, self.turn_pick(cpu));
+        }
+        picks
+    }
+
+    /// What is forced after many events without one of the patch: its event, else a taking, else a handler, of the lowest
+    /// processor.
+    fn forced(&self) -> Picks
+        ensures { map choice_of result.items ≡ forced_found self.now }
+    {
+        let cpus = self.cpus.len() as u8;
+        let mut picks = Picks::new();
+        push_some(&mut picks, self.patch_pick());
+        for cpu in 0..cpus {
+            push_some(&mut picks, self.taking_pick(cpu));
+        }
+        for cpu in 0..cpus {
+            push_some(&mut picks, self.handler_pick(cpu));
+        }
+        picks
+    }
+
+    /// The event that the choice rule takes next, with the words that it draws. `None` exactly where the script is finished;
+    /// no word is drawn then.
+    ///
+    /// Where 16 events have come since the last one of the patch, the first of these that may come is taken, without a word:
+    /// the patch's event, the taking of the lowest processor, the handler of the lowest. Else one word picks among all events
+    /// that may come: the patch's event, then for each processor its taking and its turn. For a fetch a second word picks each
+    /// byte among its candidates.
+    pub fn choose(&self, words: &mut Words) -> Option<Event>
+        ensures { (ch : Chooser) → Chooses self.now words.old ch → MatchOption result (IsOver ch words.new) (λ e. TakesNext self.now.image ch e words.new) }
+    {
+        let _image = &self.image;
+        match self.pick(words) {
+            Some(pick) => Some(self.event_of(pick, words)),
+            None => None,
+        }
+    }
+
+    /// What the rule takes, before the bytes of a fetch are picked.
+    fn pick(&self, words: &mut Words) -> Option<Pick>
+        ensures picked { picked_of result words.new ≡ chosen_found self.now words.old }
+        ensures kept { IsKept result words.old words.new }
+    {
+        if self.idle >= MOST_IDLE {
+            if let Some(pick) = self.forced().first() {
+                return Some(*pick);
+            }
+        }
+        draw(&self.picks(), words)
+    }
+
+    /// The event that a pick is; the bytes of a fetch are picked by a word.
+    fn event_of(&self, pick: Pick, words: &mut Words) -> Event
+        requires { CanFetch self.now pick }
+        ensures { MakesEvent self.now pick result words.old words.new }
+    {
+        match pick {
+            Pick::Begin => Event::Begin,
+            Pick::Write => Event::Write,
+            Pick::Request => Event::Request,
+            Pick::Return => Event::Return,
+            Pick::Take(cpu) => Event::Take(cpu),
+            Pick::Plain(cpu) => Event::Plain(cpu),
+            Pick::Fetch(cpu) => Event::At(cpu, self.fetched(cpu, words.next())),
+            Pick::Handle(cpu) => Event::Handle(cpu),
+            Pick::Tick(cpu) => Event::Tick(cpu),
+        }
+    }
+
+    /// The bytes that a processor at a patched site fetches, each picked by a word among its candidates.
+    fn fetched(&self, cpu: u8, word: u64) -> CodeBytes
+        requires { HasTurn self.now cpu kind.At }
+        ensures { (s : State) → StandsFor self.now s → IsPicked self.now.image s cpu word result.items }
+    {
+        self.cpus[usize::from(cpu)].fetch(cpu, &self.text, word)
+    }
+}
+
+/// One of some picks, by a word; none of none, and then no word is drawn.
+fn draw(picks: &[Pick], words: &mut Words) -> Option<Pick>
+    requires { length picks.now ≤ 33 }
+    ensures picked { picked_of result words.new ≡ drawn words.old (map choice_of picks.now) }
+    ensures kept { IsKept result words.old words.new }
+{
+    if picks.is_empty() {
+        return None;
+    }
+    let place = words.next() % picks.len() as u64;
+    Some(picks[place as usize])
 }
