@@ -1,0 +1,9 @@
+mod Writes
+mod Values
+mod PatchKeeps
+mod CpuKeeps
+mod Seating
+mod OwnSteps
+mod Rounds
+mod Chunk
+mod Bytes
