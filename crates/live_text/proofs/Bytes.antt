@@ -63,8 +63,8 @@ pub numbered : (t : TextInside) (site j first : ℕ) → KeepsText t → HasByte
 numbered t site j first kept has is =
     let at : IsThere t.laid.plan.sites.items site j = there t.laid.plan.sites.items site j _ kept.stands.spelt has.listed has.byte in
     let listed : site < length t.laid.plan.sites.items = has.listed in
-    let count : length t.laid.firsts.items ≡ length t.laid.plan.sites.items = kept.laid.count in
-    let first_is : first ≡ length (starts (take site t.laid.plan.sites.items)) = is ∙ get_or_default t.laid.firsts.items site first 0 (omega arith) ∙ kept.laid.firsts site listed in
+    let count : length t.laid.firsts.items ≡ length t.laid.plan.sites.items = kept.laid.firsts.count in
+    let first_is : first ≡ length (starts (take site t.laid.plan.sites.items)) = is ∙ get_or_default t.laid.firsts.items site first 0 (omega arith) ∙ kept.laid.firsts.firsts site listed in
     let low : length (starts (take site t.laid.plan.sites.items)) + j < length (starts t.laid.plan.sites.items) = at.byte_below in
     let same : length t.laid.starts.items ≡ length (starts t.laid.plan.sites.items) = ap (λ (p : Shape). length p.starts) kept.laid.shape in
     record { is = ap (λ (k : ℕ). k + j) first_is; below = omega arith; laid = omega arith }

@@ -7,3 +7,5 @@ mod OwnSteps
 mod Rounds
 mod Chunk
 mod Bytes
+mod Layouts
+mod Standing

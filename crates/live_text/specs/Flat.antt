@@ -18,7 +18,7 @@ starts sites = flat_map (λ (s : LiveSite). spelled s.start s.at) sites
 -- the number of the byte at an address, among the bytes of the sites, which ascend
 abbrev pub place : List LiveSite → ℕ → ℕ
 place [] at = 0
-place (s ∷ sites) at = if nat_lt at (s.at + size s.start) then at - s.at else size s.start + place sites at
+place (s ∷ sites) at = if nat_lt (at - s.at) (size s.start) then at - s.at else size s.start + place sites at
 
 -- the writes before each request, three lists a chunk: the breakpoints, the tails, the first bytes
 abbrev pub rounds : List (List Change) → List (List Write)

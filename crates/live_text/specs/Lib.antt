@@ -5,6 +5,7 @@ pub mod Steps
 pub mod Rule
 pub mod Seats
 pub mod Plays
+pub mod Layout
 pub mod Laid
 pub mod Own
 pub mod Calls

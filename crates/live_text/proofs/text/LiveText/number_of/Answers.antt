@@ -7,7 +7,7 @@ use Rattle.live_text.proofs.text.LiveText.number_of.Goals as goal
 pub index-requires : goal.index-requires
 index-requires c =
     let has = rw (← c.self.view_is) at c.requires.byte in
-    omega (arith, has.listed, c.self.invariant.laid.count)
+    omega (arith, has.listed, c.self.invariant.laid.firsts.count)
 
 pub overflow_add-result : goal.overflow_add-result
 overflow_add-result c =
