@@ -44,9 +44,9 @@ adds_round sites ws old new writes cuts lists r =
     record {
       writes = all ∙ ap (λ (l : List Write). map (placed sites) l) (sym (joined_more lists ws));
       cuts = cuts
-      ∙ ap (λ (l : List ℕ). l ++ length new.writes.items ∷ []) r.cuts
-      ∙ ap (λ (k : ℕ). ends 0 lists ++ k ∷ []) count
-      ∙ sym (ends_more 0 lists ws);
+          ∙ ap (λ (l : List ℕ). l ++ length new.writes.items ∷ []) r.cuts
+          ∙ ap (λ (k : ℕ). ends 0 lists ++ k ∷ []) count
+          ∙ sym (ends_more 0 lists ws);
     }
 
 -- three rounds more

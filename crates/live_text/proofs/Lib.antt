@@ -9,3 +9,5 @@ mod Chunk
 mod Bytes
 mod Layouts
 mod Standing
+mod Shapes
+mod Items

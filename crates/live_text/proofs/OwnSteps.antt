@@ -4,7 +4,7 @@ use Rattle.std.proofs.Common.{◌≡◌, ℕ, ◌+◌, ◌^◌, ◌-◌, ◌<◌
 use Rattle.std.specs.Option.{ForSome}
 use mathlib.Core.Option.{none}
 use Rattle.std.proofs.lemmas.List.{get_or_default}
-use Rattle.atomic_table.specs.Table.{step, Allows}
+use Rattle.atomic_table.specs.Table.{step, Allows, Splits}
 use Rattle.live_text.specs.declared.view.Shape.{Shape}
 use Rattle.live_text.specs.declared.view.View.{View}
 use Rattle.live_text.specs.declared.view.PlacedWrite.{PlacedWrite}
@@ -20,6 +20,8 @@ use Rattle.live_text.specs.Own.{IsOwn}
 use Rattle.live_text.specs.PatchKept.{patch_placed, KeepsPatch}
 use Rattle.live_text.specs.CpuKept.{cpu_placed, KeepsCpu}
 use Rattle.live_text.specs.TextKept.{text_state, KeepsText}
+use Rattle.live_text.specs.Steps.{seated, newcomer}
+use Rattle.live_text.proofs.Seating.{splits}
 use Rattle.live_text.specs.Plays.{Wrote, Requested, LoadedAck, Fetched, Looked, Acked, Gone}
 use Rattle.live_text.proofs.Values.{no_write, byte_at}
 use Rattle.live_text.proofs.PatchKeeps.{writes, requests, loads}
@@ -120,3 +122,12 @@ pub leaves_own : (t : TextInside) (s : CpuInside) (word : ℕ) → KeepsText t �
 leaves_own t s word kept keeps own stays word_is =
     let at = own_word t s word kept keeps own stays word_is in
     (own.table, at.1, leaves (laid_shape t.table.shared.key) _ _ s.seat.me word (keeps.sits stays) stays at.0)
+
+-- the split of the next processor's seat
+pub splits_own : (t : TextInside) (s : PatchInside) → KeepsText t → KeepsPatch s → IsOwn (text_state t) (patch_placed s) → s.seat.me.0.patch.split < t.laid.cpus → Asks t (patch_placed s) 0 (Splits (Live (laid_shape t.table.shared.key)) s.seat.id s.seat.me.0 (seated s.seat.me.0) (newcomer s.seat.me.0))
+splits_own t s kept keeps own more =
+    let p : Shape = laid_shape t.table.shared.key in
+    let told : laid_shape t.table.shared.key ≡ laid_shape t.laid = ap laid_shape kept.keyed in
+    let more' : s.seat.me.0.patch.split < p.cpus = subst (λ (q : Shape). s.seat.me.0.patch.split < q.cpus) (sym told) more in
+    let size : t.table.shared.table_id.words ≡ length p.starts + (p.cpus + 1) = words_are t kept in
+    (own.table, omega arith, splits p s.seat.id s.seat.me.0 keeps.patches.role more')

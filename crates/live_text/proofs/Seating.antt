@@ -4,7 +4,7 @@ use mathlib.Core.Logic.{dite}
 use mathlib.Core.Option.{none, some, some-injective, some-ne-none}
 use native.Mathlib.Decide.{ℕ_discrete, dec_le}
 use lib.ListN.{get_elem?, length-replicate, get_or-append}
-use Rattle.std.proofs.lemmas.List.{get_or-append_right, get_or_default}
+use Rattle.std.proofs.lemmas.List.{get_or-append_right, get_or_push}
 use Rattle.atomic_table.specs.Table.{State, opening, Splits, Final, Seen}
 use Rattle.atomic_table.proofs.Lists.{at_snoc}
 use Rattle.live_text.specs.declared.view.Shape.{Shape}
@@ -13,18 +13,15 @@ use Rattle.live_text.specs.declared.view.CpuView.{CpuView}
 use Rattle.live_text.specs.declared.view.View.{View}
 use Rattle.live_text.specs.declared.view.Role.TheVariants.{Patch, Cpu}
 use Rattle.live_text.specs.Past.{value, cut, Found, IsShape}
-use Rattle.live_text.specs.Steps.{first_view, first_cpu, seated, newcomer, no_bytes}
+use Rattle.live_text.specs.Steps.{zeros, first_words, first_view, first_cpu, seated, newcomer, no_bytes}
 use Rattle.live_text.specs.Rule.{generation_word, ack_word, cached, Leads, Fits, Follows, Live}
+use Rattle.std.specs.Prelude.{slice_get}
+use Rattle.std.proofs.lemmas.Option.{same_Some}
+use Rattle.live_text.specs.Seats.{Placed, Patches, Sits}
+use Rattle.live_text.specs.Own.{TextState, IsSeated, AreSeated}
 use Rattle.live_text.proofs.Values.{same_everywhere, value_start}
 use Rattle.live_text.proofs.PatchKeeps.{St, IsFirst, at_patch, follows_on, inside_list}
 use Rattle.live_text.proofs.CpuKeeps.{empty_cache}
-
--- the words at the start: the bytes of the sites, then zeros
-abbrev pub zeros : ℕ → List ℕ
-zeros n = replicate n 0
-
-abbrev pub first_words : Shape → List ℕ
-first_words p = p.starts ++ zeros (p.cpus + 1)
 
 zero_at : (n i : ℕ) → get_or (zeros n) i 0 ≡ 0
 zero_at n i = same_everywhere n i 0
@@ -47,6 +44,11 @@ opens_leads p sound some_cuts =
       asked = λ c small. omega arith;
       settled = λ c small after. omega arith;
     }
+
+pub words_length : (p : Shape) → length (first_words p) ≡ length p.starts + (p.cpus + 1)
+words_length p =
+    length-append p.starts (zeros (p.cpus + 1))
+    ∙ ap (λ (n : ℕ). length p.starts + n) (length-replicate (p.cpus + 1) 0)
 
 pub opens : (p : Shape) → IsShape p → 0 < length p.cuts → Live p (opening (first_words p) [] (first_view p))
 opens p sound some_cuts = record {
@@ -133,22 +135,19 @@ splits p id v role more s l at =
     let more' : l.patch.patch.split < p.cpus = subst (λ (w : View). w.patch.split < p.cpus) (sym first.view) more in
     subst (λ (z : ℕ × View). Live p (record { words = s.words; homes = s.homes; views = set s.views z.0 (seated z.1) ++ newcomer z.1 ∷ [] })) (λ k. (sym first.number k, first.view k)) (split_keeps p s l more')
 
-abbrev pub no_slots : List (Unit {0})
-no_slots = []
-
 -- the bytes at the end are those at the patch seat's place
-pub record AreBytes (p : Shape) (k : ℕ) (words : List ℕ) : Type 0 where
+pub record AreWords (p : Shape) (k : ℕ) (words : List ℕ) : Type 0 where
   pub size : length words ≡ length p.starts + (p.cpus + 1)
   pub bytes : (b : ℕ) → b < length p.starts → get_or words b 0 ≡ value p k b
   pub small : (b : ℕ) → b < length p.starts → get_or words b 0 < 256
 
-pub final_bytes : (p : Shape) (id : ℕ) (v : View) (words : List ℕ) → v.role ≡ Patch → Final (Seen (Live p) id v) words no_slots → AreBytes p v.patch.done words
-final_bytes p id v words role final =
+pub final_bytes : (p : Shape) (id : ℕ) (v : View) (words : List ℕ) (slots : List (Unit {0})) → v.role ≡ Patch → Final (Seen (Live p) id v) words slots → AreWords p v.patch.done words
+final_bytes p id v words slots role final =
     let s : St = final.0 in
     let l : Live p s = final.1.0 in
     let first : IsFirst s p l id v = at_patch p s l id v final.1.1 role in
     let same : s.words ≡ words = final.2 in
-    let is : AreBytes p l.patch.patch.done s.words = record {
+    let is : AreWords p l.patch.patch.done s.words = record {
       size = l.size;
       bytes = l.leads.bytes;
       small = λ b below.
@@ -156,4 +155,65 @@ final_bytes p id v words role final =
           let least : value p l.patch.patch.done b < 256 = l.sound.small l.patch.patch.done b in
           omega arith);
     } in
-    subst (λ (z : View × List ℕ). AreBytes p z.0.patch.done z.1) (λ k. (first.view k, same k)) is
+    subst (λ (z : View × List ℕ). AreWords p z.0.patch.done z.1) (λ k. (first.view k, same k)) is
+
+-- a processor's seat at the start
+pub first_sits : (p : Shape) (c : ℕ) → IsShape p → c < p.cpus → Sits (first_cpu p c)
+first_sits p c sound small =
+    let begins : cut p 0 ≡ 0 = sound.begins in
+    record {
+      role = refl;
+      number = small;
+      acked = omega arith;
+      mark_above = omega arith;
+      mark_below = omega arith;
+      knows = omega arith;
+      near = omega arith;
+      within = omega arith;
+      cache_size = length-replicate (length p.starts) None;
+      cache_is = λ b v held. absurd (empty_cache (length p.starts) b v held);
+    }
+
+-- the patch seat at the start
+pub first_patches : (p : Shape) → 0 < length p.cuts → Patches (first_view p)
+first_patches p some_cuts = record {
+  role = refl;
+  to = omega arith;
+  requests = some_cuts;
+  bounds = length-replicate p.cpus 0;
+}
+
+-- a word by its place
+pub word_at : (words : List ℕ) (i n : ℕ) → get_elem? words i ≡ some n → get_or words i 0 ≡ n
+word_at [] i n e = absurd (some-ne-none n (sym e))
+word_at (x ∷ words) zero n e = some-injective x n e
+word_at (x ∷ words) (suc i) n e = word_at words i n e
+
+slice_last : (l : List Placed) (w : Placed) (c : ℕ) (v : Placed) → slice_get (l ++ w ∷ []) c ≡ Some v → (slice_get l c ≡ Some v) ⊎ ((c ≡ length l) × (w ≡ v))
+slice_last [] w zero v e = inr (refl, same_Some w v e)
+slice_last [] w (suc c) v e = absurd (cc)
+slice_last (x ∷ l) w zero v e = inl e
+slice_last (x ∷ l) w (suc c) v e =
+    elim (slice_last l w c v e) [ inl before ↦ inl before | inr last ↦ inr (ap suc last.0, last.1) ]
+
+-- one seat more
+pub seated_more : (text : TextState) (n : ℕ) (seats : List Placed) (seat : Placed) → AreSeated text n seats → IsSeated text n seat → AreSeated text (n + 1) (seats ++ seat ∷ [])
+seated_more text n seats seat are is = record {
+  count_is = length-append seats (seat ∷ []) ∙ ap (λ (k : ℕ). k + 1) are.count_is;
+  each = λ number s at.
+      elim (slice_last seats seat number s at) [
+        | inl before ↦ are.each number s before
+        | inr last ↦ subst (λ (z : ℕ × Placed). IsSeated text z.0 z.1) (λ k. (sym (last.0 ∙ are.count_is) k, last.1 k)) is
+      ];
+}
+
+-- one byte more
+pub bytes_more : (room words : List ℕ) (n byte : ℕ) → length room ≡ n → ((b : ℕ) → b < n → get_or room b 0 ≡ get_or words b 0) → get_elem? words n ≡ some byte → (b : ℕ) → b < n + 1 → get_or (room ++ byte ∷ []) b 0 ≡ get_or words b 0
+bytes_more room words n byte long same at b below =
+    dite (ℕ_discrete b n)
+    (λ here.
+    ap (λ (k : ℕ). get_or (room ++ byte ∷ []) k 0) (here ∙ sym long)
+    ∙ get_or_push room byte 0 (length room) refl
+    ∙ sym (word_at words n byte at)
+    ∙ ap (λ (k : ℕ). get_or words k 0) (sym here))
+    (λ other. get_or-append room (byte ∷ []) 0 b (omega arith) ∙ same b (omega arith))

@@ -4,7 +4,7 @@ use Rattle.std.specs.Prelude.{slice_get}
 use Rattle.std.specs.List.{Contains}
 use Rattle.std.proofs.lemmas.Bool.{le-ltb}
 use Rattle.std.proofs.lemmas.Bool.Decides.{Decides-eqb}
-use Rattle.std.proofs.lemmas.List.{length-append, take_more, get_or_default}
+use Rattle.std.proofs.lemmas.List.{length-append, length-map, get_or-map, take_more, get_or_default}
 use Rattle.std.proofs.lemmas.List.Elements.{All-contains}
 use Rattle.insn_forms.specs.declared.forms.Form.{Form}
 use Rattle.insn_forms.specs.declared.forms.Change.{Change}
@@ -23,10 +23,10 @@ use Rattle.live_text.proofs.Rounds.{IsSpellable, IsPoked, length-spelled}
 use Rattle.live_text.proofs.Bytes.{AreSpelt}
 
 -- the first site ends before the sites after it begin
-first_apart : (s : LiveSite) (sites : List LiveSite) (n : ℕ) (d : LiveSite) → SitesApart (s ∷ sites) → n < length sites → s.at + size s.start ≤ (get_or sites n d).at
+pub first_apart : (s : LiveSite) (sites : List LiveSite) (n : ℕ) (d : LiveSite) → SitesApart (s ∷ sites) → n < length sites → s.at + size s.start ≤ (get_or sites n d).at
 first_apart s sites n d apart below = apart 0 (suc n) d (omega arith) (omega arith)
 
-rest_apart : (s : LiveSite) (sites : List LiveSite) → SitesApart (s ∷ sites) → SitesApart sites
+pub rest_apart : (s : LiveSite) (sites : List LiveSite) → SitesApart (s ∷ sites) → SitesApart sites
 rest_apart s sites apart i j d lt below = apart (suc i) (suc j) d (omega arith) (omega arith)
 
 rest_spelt : (s : LiveSite) (sites : List LiveSite) → AreSpelt (s ∷ sites) → AreSpelt sites
@@ -42,6 +42,7 @@ place_there (s ∷ sites) zero i d apart spelt below small =
   where
     yes : (a b : ℕ) → a < b → nat_lt a b ≡ true
     yes a b lt = grind (arith, Rattle.std.proofs.lemmas.Bool.Decides.nat_tests)
+
     zero_first : i ≡ 0 + i
     zero_first = omega arith
 place_there (s ∷ sites) (suc n) i d apart spelt below small =
@@ -126,6 +127,7 @@ size_stays sites chunks s (suc j) apart are has le =
   where
     plus : (n : ℕ) → suc n ≡ n + 1
     plus n = omega arith
+
     new_size : (earlier : List (List Change)) (c : Change) → IsChange sites earlier c → c.at ≡ s.at → size (form_after earlier s.at s.start) ≡ size s.start → size c.new ≡ size s.start
     new_size earlier c is there before =
         let same : is.site ≡ s = site_at sites is.site s apart (has_from sites is.site is.listed) has (is.there ∙ there) in
@@ -196,3 +198,9 @@ rows_at plan j d stands below i c small =
     let chunk : List Change = get_or (chunks_of plan) j d in
     let is : IsChange plan.sites.items (take j (chunks_of plan)) (get_or chunk i c) = (chunk_at plan j d stands below).changes i c small in
     in_row plan.sites.items (take j (chunks_of plan)) (get_or chunk i c) is (change_numbered plan.sites.items (chunks_of plan) j (get_or chunk i c) stands.apart stands.spelt stands.chunks (omega arith) is)
+
+pub rows_of : (plan : LivePlan) → Stands plan → All (λ chunk. All (IsInRow plan.sites.items) chunk.items) plan.chunks.items
+rows_of plan stands k d below =
+    let count : length (chunks_of plan) ≡ length plan.chunks.items = length-map plan.chunks.items (λ chunk. chunk.items) in
+    let same : get_or (chunks_of plan) k [] ≡ (get_or plan.chunks.items k d).items = get_or-map (λ chunk. chunk.items) plan.chunks.items k d [] below in
+    subst (λ (chunk : List Change). All (IsInRow plan.sites.items) chunk) same (rows_at plan k [] stands (omega arith))

@@ -10,6 +10,7 @@ pub mod Laid
 pub mod Own
 pub mod Calls
 pub mod Table
+pub mod Laws
 pub mod PatchKept
 pub mod CpuKept
 pub mod TextKept

@@ -1,11 +1,18 @@
 -- What each step makes of its seat's view.
-use Rattle.std.specs.Prelude.{◌+◌, ◌-◌, ◌^◌, ℕ, true, false, List, [], length, replicate, slice_set, max, Option, None, Some}
+use Rattle.std.specs.Prelude.{◌+◌, ◌-◌, ◌^◌, ℕ, true, false, List, [], ◌++◌, length, replicate, slice_set, max, Option, None, Some}
 use Rattle.live_text.specs.declared.view.Shape.{Shape}
 use Rattle.live_text.specs.declared.view.PatchView.{PatchView}
 use Rattle.live_text.specs.declared.view.CpuView.{CpuView}
 use Rattle.live_text.specs.declared.view.View.{View}
 use Rattle.live_text.specs.declared.view.Role.TheVariants.{Patch, Cpu}
 use Rattle.live_text.specs.Past.{cut, seek}
+
+-- the words at the start: the bytes of the sites, then zeros
+abbrev pub zeros : ℕ → List ℕ
+zeros n = replicate n 0
+
+abbrev pub first_words : Shape → List ℕ
+first_words p = p.starts ++ zeros (p.cpus + 1)
 
 -- a cache with nothing in it
 abbrev pub no_bytes : Shape → List (Option ℕ)
@@ -70,3 +77,7 @@ acked g v = record v { cpu = record v.cpu { ack = g; mark = v.cpu.known; cache =
 -- it leaves
 abbrev pub gone : View → View
 gone v = record v { cpu = record v.cpu { ack = 2 ^ 64 - 1; left = true } }
+
+-- the patch seat after so many seats were split off from it
+abbrev pub after_splits : Shape → ℕ → View
+after_splits p n = record (first_view p) { patch = record (first_view p).patch { split = n } }

@@ -3,10 +3,10 @@
 
 pub mod cpu;
 mod laid;
+pub mod laws;
 mod layout;
 pub mod patch;
 pub mod plan;
-
 mod rule;
 pub mod text;
 pub mod view;

@@ -1,16 +1,22 @@
 //! The shared words, and what the seats do with them.
-ghost use Rattle.std.specs.Prelude.{◌≡◌, ◌≤◌, ◌<◌, ◌+◌, ◌^◌, ◌-◌, false, length, slice_index};
+ghost use Rattle.std.specs.Prelude.{◌≡◌, ◌≤◌, ◌<◌, ◌+◌, ◌^◌, ◌-◌, false, None, length, replicate, slice_index, IfOk, OnOk};
 ghost use Rattle.live_text.specs.Flat.{shape_of};
-ghost use Rattle.live_text.specs.Steps.{wrote, requested, loaded_ack, fetched, looked, acked, gone};
+ghost use Rattle.live_text.specs.Plan.{Stands};
+ghost use Rattle.live_text.specs.Laid.{IsLaid};
+ghost use Rattle.live_text.specs.Steps.{first_view, after_splits, seated, wrote, requested, loaded_ack, fetched, looked, acked, gone};
 ghost use Rattle.live_text.specs.Seats.{KnowsAll, WriteDue, RequestDue};
-ghost use Rattle.live_text.specs.Own.{IsOwn, HasByte, byte_number};
+ghost use Rattle.live_text.specs.Own.{IsOwn, HasByte, byte_number, IsSeated, AreSeated, AreBytes};
 ghost use Rattle.live_text.specs.Calls.{Puts, Reads, HadSince};
 
 use crate::cpu::CpuSeat;
 use crate::laid::Laid;
 use crate::patch::PatchSeat;
 use crate::plan::LivePlan;
-use crate::rule::{Acknowledges, Fetches, Leaves, LoadsAck, Looks, Requests, Shared, Writes};
+use crate::rule::{
+    Acknowledges, Fetches, Leaves, LoadsAck, Looks, Requests, Seats, Shared, Writes,
+};
+use poke_base::NoMemory;
+use std::alloc::Global;
 use std::marker::Model;
 
 /// What the patch seat did.
@@ -47,6 +53,125 @@ impl Model for LiveText {
 }
 
 impl LiveText {
+    /// The shared words of a plan that stands, for 1 to 16 processors, with the seat of the thread that
+    /// patches and the seats of the processors, by number. All memory is taken here.
+    ///
+    /// # Errors
+    /// Out of memory; the plan is gone.
+    pub fn new(
+        alloc: Global,
+        plan: LivePlan,
+        cpus: u8,
+    ) -> Result<(LiveText, PatchSeat, Vec<CpuSeat>), NoMemory>
+        requires some_cpus { 1 ≤ cpus }
+        requires most_cpus { cpus ≤ 16 }
+        requires stands { Stands plan }
+        ensures plan { IfOk result (λ made. made.0.plan ≡ plan) }
+        ensures cpus { IfOk result (λ made. made.0.cpus ≡ cpus) }
+        ensures own { IfOk result (λ made. IsOwn made.0 made.1) }
+        ensures patch { IfOk result (λ made. made.1.view ≡ after_splits (shape_of plan cpus) cpus) }
+        ensures seats { IfOk result (λ made. AreSeated made.0 cpus made.2.items) }
+    {
+        let laid = Laid::of(alloc, plan, cpus)?;
+        let (text, mut patch) = LiveText::alone(alloc, laid)?;
+        let seats = text.split_all(alloc, &mut patch, cpus)?;
+        Ok((text, patch, seats))
+    }
+
+    /// The seats of all processors.
+    ///
+    /// # Errors
+    /// Out of memory.
+    fn split_all(
+        &self,
+        alloc: Global,
+        patch: &mut PatchSeat,
+        cpus: u8,
+    ) -> Result<Vec<CpuSeat>, NoMemory>
+        requires own { IsOwn self.now patch.old }
+        requires cpus { cpus ≡ self.now.cpus }
+        requires first { patch.old.view ≡ first_view (shape_of self.now.plan self.now.cpus) }
+        ensures own { OnOk result (IsOwn self.now patch.new) }
+        ensures patch { OnOk result (patch.new.view ≡ after_splits (shape_of self.now.plan self.now.cpus) cpus) }
+        ensures seats { IfOk result (λ seats. AreSeated self.now cpus seats.items) }
+    {
+        let mut seats = Vec::with_capacity(alloc, usize::from(cpus))?;
+        for number in 0..cpus {
+            let seat = self.split(alloc, patch, number)?;
+            seats.push_reserved(seat);
+        }
+        Ok(seats)
+    }
+
+    /// The shared words, with the seat of the thread that patches alone.
+    ///
+    /// # Errors
+    /// Out of memory.
+    fn alone(alloc: Global, laid: Laid) -> Result<(LiveText, PatchSeat), NoMemory>
+        requires laid { IsLaid laid }
+        requires stands { Stands laid.plan }
+        ensures plan { IfOk result (λ made. made.0.plan ≡ laid.plan) }
+        ensures cpus { IfOk result (λ made. made.0.cpus ≡ laid.cpus) }
+        ensures own { IfOk result (λ made. IsOwn made.0 made.1) }
+        ensures patch { IfOk result (λ made. made.1.view ≡ first_view (shape_of laid.plan laid.cpus)) }
+    {
+        let words = laid.words(alloc)?;
+        let room = Vec::with_capacity(alloc, laid.starts.len())?;
+        let bounds = zeros(alloc, laid.cpus)?;
+        let (table, seat) = Shared::of_words(alloc, words.as_slice(), &laid)?;
+        let text = LiveText { table, laid, room };
+        let patch = PatchSeat {
+            seat,
+            done: 0,
+            stored: 0,
+            bounds,
+        };
+        Ok((text, patch))
+    }
+
+    /// The seat of the next processor.
+    ///
+    /// # Errors
+    /// Out of memory.
+    fn split(&self, alloc: Global, patch: &mut PatchSeat, number: u8) -> Result<CpuSeat, NoMemory>
+        requires own { IsOwn self.now patch.old }
+        requires next { patch.old.view.patch.split ≡ number }
+        requires below { number < self.now.cpus }
+        ensures own { OnOk result (IsOwn self.now patch.new) }
+        ensures patch { OnOk result (patch.new.view ≡ seated patch.old.view) }
+        ensures seat { IfOk result (IsSeated self.now number) }
+    {
+        let cache = no_bytes(alloc, self.laid.starts.len())?;
+        let seat = self.table.shared.split_seat::<Seats>(&mut patch.seat);
+        Ok(CpuSeat {
+            seat,
+            number,
+            ack: 0,
+            cache,
+        })
+    }
+
+    /// The bytes of the sites after what the patch seat has stored, at whatever place it stands. No
+    /// thread shares the words any more.
+    pub fn finish(self, patch: PatchSeat, cpus: Vec<CpuSeat>) -> Vec<u8>
+        requires own { IsOwn self patch }
+        ensures bytes { AreBytes patch.view.shape patch.view.patch.done result.items }
+    {
+        drop(cpus);
+        let LiveText {
+            table,
+            laid,
+            mut room,
+        } = self;
+        let PatchSeat { seat, .. } = patch;
+        let closed = table.close_with(seat);
+        for number in 0..laid.starts.len() {
+            room.push_reserved(closed.word(number) as u8);
+        }
+        closed.free();
+        room
+    }
+
     /// The plan.
     pub fn plan(&self) -> &LivePlan
         ensures { result.now ≡ self.now.plan }
@@ -239,4 +364,32 @@ impl LiveText {
             .store::<Leaves>(&mut seat.seat, word, u64::MAX);
         seat.ack = u64::MAX;
     }
+}
+
+/// An acknowledgement of 0 for each processor.
+///
+/// # Errors
+/// Out of memory.
+fn zeros(alloc: Global, count: u8) -> Result<Vec<u64>, NoMemory>
+    ensures { IfOk result (λ made. made.items ≡ replicate count 0) }
+{
+    let mut made = Vec::new(alloc);
+    for _ in 0..count {
+        made.push(0)?;
+    }
+    Ok(made)
+}
+
+/// A cache for so many bytes, with nothing in it.
+///
+/// # Errors
+/// Out of memory.
+fn no_bytes(alloc: Global, count: usize) -> Result<Vec<Option<u8>>, NoMemory>
+    ensures { IfOk result (λ made. made.items ≡ replicate count None) }
+{
+    let mut made = Vec::new(alloc);
+    for _ in 0..count {
+        made.push(None)?;
+    }
+    Ok(made)
 }
