@@ -11,3 +11,4 @@ mod Layouts
 mod Standing
 mod Shapes
 mod Items
+mod Numbers

@@ -24,7 +24,7 @@ use Rattle.live_text.proofs.Writes.{Has, has_from, has_contains, has_cases, has_
 use Rattle.live_text.proofs.Values.{no_write, value_start}
 use Rattle.live_text.proofs.Rounds.{round, IsSpellable, IsPoked, IsOf, round_of, spelt_as}
 use Rattle.live_text.proofs.Bytes.{AreSpelt}
-use Rattle.live_text.proofs.Standing.{AreChunks, IsNumbered, first_apart, rest_apart, change_size, change_numbered, change_in, chunk_at}
+use Rattle.live_text.proofs.Standing.{AreChunks, IsNumbered, IsSited, sited, first_apart, rest_apart, change_size, change_numbered, change_in, chunk_at}
 
 -- a cut is the number of writes before it
 cut_from : (n : ℕ) (lists : List (List Write)) (r : ℕ) → get_or (ends n lists) r (n + length (joined lists)) ≡ n + length (joined (take r lists))
@@ -114,6 +114,7 @@ chunk_poked plan j stands below = record { each = each; apart = apart }
 pub record IsFine (sites : List LiveSite) (w : Write) : Type 0 where
   pub place : place sites w.at < length (starts sites)
   pub byte : w.byte < 256
+  pub sited : IsSited sites w.at
 
 byte_inside : (bytes : List ℕ) (i : ℕ) → All (λ byte. byte < 256) bytes → get_or bytes i 0 < 256
 byte_inside [] i all = omega arith
@@ -152,7 +153,11 @@ fine plan j r w stands below has =
     let at : place plan.sites.items w.at ≡ n.first + of.place = ap (place plan.sites.items) of.at ∙ n.row of.place of.below in
     let inside : of.place < size of.change.old = of.below in
     let most : n.first + size of.change.old ≤ length (starts plan.sites.items) = n.below in
-    record { place = omega arith; byte = subst (λ (b : ℕ). b < 256) (sym of.byte) (round_byte (suc r) of.change of.place) }
+    record {
+      place = omega arith;
+      byte = subst (λ (b : ℕ). b < 256) (sym of.byte) (round_byte (suc r) of.change of.place);
+      sited = sited plan.sites.items of.change is.site of.place w.at is.listed is.there (change_size plan.sites.items (chunks_of plan) j of.change is stands.apart stands.chunks (omega arith)) of.below of.at;
+    }
 
 -- what holds of the writes of each round holds of all writes
 joined_each : (P : Write → Type 0) (chunks : List (List Change)) → ((j r : ℕ) (w : Write) → j < length chunks → Has (round r (get_or chunks j [])) w → P w) → (w : Write) → Has (joined (rounds chunks)) w → P w

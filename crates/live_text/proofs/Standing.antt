@@ -7,6 +7,7 @@ use Rattle.std.proofs.lemmas.Bool.Decides.{Decides-eqb}
 use Rattle.std.proofs.lemmas.List.{length-append, length-map, get_or-map, take_more, get_or_default}
 use Rattle.std.proofs.lemmas.List.Elements.{All-contains}
 use Rattle.insn_forms.specs.declared.forms.Form.{Form}
+use Rattle.insn_forms.specs.declared.forms.Form.TheVariants.{Nop2}
 use Rattle.insn_forms.specs.declared.forms.Change.{Change}
 use Rattle.insn_forms.specs.Spelling.{spell, size}
 use Rattle.insn_forms.specs.Write.{Write}
@@ -204,3 +205,25 @@ rows_of plan stands k d below =
     let count : length (chunks_of plan) ≡ length plan.chunks.items = length-map plan.chunks.items (λ chunk. chunk.items) in
     let same : get_or (chunks_of plan) k [] ≡ (get_or plan.chunks.items k d).items = get_or-map (λ chunk. chunk.items) plan.chunks.items k d [] below in
     subst (λ (chunk : List Change). All (IsInRow plan.sites.items) chunk) same (rows_at plan k [] stands (omega arith))
+
+-- an address of a byte of a site, by the site's number
+abbrev pub no_site : LiveSite
+no_site = record { at = 0; start = Nop2 }
+
+abbrev pub the_site : List LiveSite → ℕ → LiveSite
+the_site sites n = get_or sites n no_site
+
+pub record IsSited (sites : List LiveSite) (at : ℕ) : Type 0 where
+  pub site : ℕ
+  pub offset : ℕ
+  pub listed : site < length sites
+  pub inside : offset < size (the_site sites site).start
+  pub there : (the_site sites site).at + offset ≡ at
+
+-- as each byte of a change is
+pub sited : (sites : List LiveSite) (c : Change) (s : LiveSite) (i at : ℕ) → Contains sites s → s.at ≡ c.at → size c.old ≡ size s.start → i < size c.old → at ≡ c.at + i → IsSited sites at
+sited sites c s i at listed there same below is =
+    let found : the_site sites listed.0 ≡ s = get_or_default sites listed.0 no_site s listed.1 ∙ listed.2 in
+    let address : (the_site sites listed.0).at ≡ c.at = ap (λ (t : LiveSite). t.at) found ∙ there in
+    let size_is : size (the_site sites listed.0).start ≡ size c.old = ap (λ (t : LiveSite). size t.start) found ∙ sym same in
+    record { site = listed.0; offset = i; listed = listed.1; inside = omega arith; there = omega arith }
