@@ -12,3 +12,4 @@ mod Standing
 mod Shapes
 mod Items
 mod Numbers
+mod TestPlans

@@ -11,6 +11,7 @@ pub mod Own
 pub mod Calls
 pub mod Table
 pub mod Laws
+pub mod Tests
 pub mod PatchKept
 pub mod CpuKept
 pub mod TextKept
