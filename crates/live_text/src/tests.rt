@@ -101,3 +101,64 @@ fn a_site_becomes_a_jump(rt: HostRuntime) -> Result<(), NoMemory> {
     assert_eq!(rt; bytes.as_slice(), [0xe9, 0x09, 0x00, 0x00, 0x00].as_slice());
     Ok(())
 }
+
+/// What was read before the tails were stored stays cached until a fresh load.
+#[tactic(auto, using(crate::proofs::TestPlans::one_byte))]
+fn stays_cached(rt: &impl Abort, text: &LiveText, cpu: &mut CpuSeat)
+    requires own { IsOwn text.now cpu.old }
+    requires stays { cpu.old.view.cpu.left ≡ false }
+    requires site { IsOneSite text.now.plan }
+    ensures own { IsOwn text.now cpu.new }
+    ensures stays { cpu.new.view.cpu.left ≡ false }
+{
+    reads(rt, text, cpu, 1, false, 0x1f);
+    reads(rt, text, cpu, 1, true, 0x09);
+    reads(rt, text, cpu, 1, false, 0x09);
+    reads(rt, text, cpu, 2, false, 0x44);
+}
+
+#[test]
+#[tactic(auto, using(crate::proofs::TestPlans::one_stands, crate::proofs::TestPlans::one_byte))]
+fn a_stale_byte_stays_cached_until_it_is_acknowledged(rt: HostRuntime) -> Result<(), NoMemory> {
+    let alloc = rt.alloc();
+    let (text, mut patch, seats) = LiveText::new(alloc, one_site(alloc)?, 1)?;
+    let mut cpu = lone_seat(&text, seats);
+    puts(&rt, &text, &mut patch, 2, Put::Stored);
+    takes(&rt, &text, &mut cpu, 1);
+    reads(&rt, &text, &mut cpu, 1, false, 0x1f);
+    reads(&rt, &text, &mut cpu, 2, false, 0x44);
+    assert_eq!(rt; text.ack_of(&mut patch, 0), 1);
+    puts(&rt, &text, &mut patch, 5, Put::Stored);
+    stays_cached(&rt, &text, &mut cpu);
+    takes(&rt, &text, &mut cpu, 2);
+    reads(&rt, &text, &mut cpu, 2, false, 0x00);
+    Ok(())
+}
+
+/// A patch that ends after so many items leaves these bytes.
+#[tactic(auto, using(crate::proofs::TestPlans::one_stands))]
+fn ends_after(rt: &impl Abort, alloc: Global, items: u8, want: &[u8]) -> Result<(), NoMemory> {
+    let (text, mut patch, seats) = LiveText::new(alloc, one_site(alloc)?, 1)?;
+    let mut cpu = lone_seat(&text, seats);
+    text.leave(&mut cpu);
+    assert_eq!(rt; text.ack_of(&mut patch, 0), u64::MAX);
+    puts(rt, &text, &mut patch, items, Put::Stored);
+    let bytes = text.finish(patch, Vec::new(alloc));
+    assert_eq!(rt; bytes.as_slice(), want);
+    Ok(())
+}
+
+#[test]
+fn a_patch_ends_at_each_place(rt: HostRuntime) -> Result<(), NoMemory> {
+    let alloc = rt.alloc();
+    ends_after(&rt, alloc, 0, &[0x0f, 0x1f, 0x44, 0x00, 0x00])?;
+    ends_after(&rt, alloc, 1, &[0xcc, 0x1f, 0x44, 0x00, 0x00])?;
+    ends_after(&rt, alloc, 2, &[0xcc, 0x1f, 0x44, 0x00, 0x00])?;
+    ends_after(&rt, alloc, 3, &[0xcc, 0x09, 0x44, 0x00, 0x00])?;
+    ends_after(&rt, alloc, 4, &[0xcc, 0x09, 0x00, 0x00, 0x00])?;
+    ends_after(&rt, alloc, 5, &[0xcc, 0x09, 0x00, 0x00, 0x00])?;
+    ends_after(&rt, alloc, 6, &[0xcc, 0x09, 0x00, 0x00, 0x00])?;
+    ends_after(&rt, alloc, 7, &[0xcc, 0x09, 0x00, 0x00, 0x00])?;
+    ends_after(&rt, alloc, 8, &[0xe9, 0x09, 0x00, 0x00, 0x00])?;
+    ends_after(&rt, alloc, 9, &[0xe9, 0x09, 0x00, 0x00, 0x00])
+}
