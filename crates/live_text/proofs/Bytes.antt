@@ -1,10 +1,10 @@
 -- The numbers of the bytes of the sites, and what a seat knows of a cached byte.
-use Rattle.std.proofs.Common.{◌≡◌, inl, inr, ℕ, zero, suc, ◌+◌, ◌-◌, ◌<◌, ◌≤◌, List, [], ◌∷◌, ◌++◌, length, map, take, get_or, refl, ap, sym, ◌∙◌, subst, arith, All, Option, Some, None, IsSome, set, length-set, get_or-set_same}
+use Rattle.std.proofs.Common.{◌≡◌, ℕ, zero, suc, ◌+◌, ◌-◌, ◌<◌, ◌≤◌, List, [], ◌∷◌, ◌++◌, length, take, get_or, refl, ap, sym, ◌∙◌, subst, arith, All, Option, Some, None, IsSome, set, length-set, get_or-set_same}
 use Rattle.std.proofs.lemmas.List.{take_more, length-append, length-map, take-take, take_all, get_or_default}
 use Rattle.std.proofs.lemmas.List.Elements.{All-push}
 use Rattle.insn_forms.specs.Spelling.{spell, size}
 use Rattle.insn_forms.specs.Write.{Write}
-use Rattle.insn_forms.specs.History.{Memory, written, byte, IsCandidate}
+use Rattle.insn_forms.specs.History.{written, IsCandidate}
 use Rattle.poke_batch.specs.Poke.{spelled}
 use Rattle.live_text.specs.declared.plan.LiveSite.{LiveSite}
 use Rattle.live_text.specs.declared.view.Shape.{Shape}

@@ -1,17 +1,16 @@
 -- Each step of a processor's seat keeps the rule, and leaves the seat what it keeps between steps.
-use Rattle.std.proofs.Common.{◌≡◌, ◌≢◌, ◌⊎◌, inl, inr, ⊎_elim, ℕ, zero, suc, ◌+◌, ◌-◌, ◌^◌, ◌<◌, ◌≤◌, Bool, true, false, List, [], ◌∷◌, length, replicate, get_or, set, refl, ap, sym, ◌∙◌, subst, arith, max, length-set, get_or-set_same, get_or-set_other, Option, Some, None}
+use Rattle.std.proofs.Common.{◌≡◌, ◌≢◌, ⊎_elim, ℕ, zero, suc, ◌+◌, ◌-◌, ◌^◌, ◌<◌, ◌≤◌, true, false, List, ◌∷◌, length, replicate, get_or, set, refl, ap, sym, ◌∙◌, subst, arith, max, length-set, get_or-set_same, get_or-set_other, Option, Some, None}
 use mathlib.Core.Logic.{dite}
-use mathlib.Core.Option.{none, some, some-injective, some-ne-none}
+use mathlib.Core.Option.{none, some, some-injective}
 use native.Mathlib.Decide.{ℕ_discrete, dec_le}
 use lib.ListN.{get_elem?, length-replicate}
 use lib.Seq.{set-get_or}
-use Rattle.atomic_table.specs.Table.{State, Me, step, keeps, Allows}
+use Rattle.atomic_table.specs.Table.{step, keeps, Allows}
 use Rattle.atomic_table.proofs.Lists.{at_set, set_here}
 use Rattle.live_text.specs.declared.view.Shape.{Shape}
 use Rattle.live_text.specs.declared.view.PatchView.{PatchView}
 use Rattle.live_text.specs.declared.view.CpuView.{CpuView}
 use Rattle.live_text.specs.declared.view.View.{View}
-use Rattle.live_text.specs.declared.view.Role.{Role}
 use Rattle.live_text.specs.declared.view.Role.TheVariants.{Patch, Cpu}
 use Rattle.live_text.specs.Past.{value, cut, seek, Found, IsShape}
 use Rattle.live_text.specs.Steps.{no_bytes, fetched, looked, acked, gone}

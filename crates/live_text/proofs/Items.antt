@@ -1,5 +1,5 @@
 -- The writes of a plan and its requests are the items of its pokes.
-use Rattle.std.proofs.Common.{◌≡◌, ◌⊎◌, inl, inr, ℕ, zero, suc, ◌+◌, ◌-◌, ◌<◌, ◌≤◌, List, [], ◌∷◌, ◌++◌, length, map, take, get_or, refl, ap, sym, ◌∙◌, subst, arith, Option, Some, None}
+use Rattle.std.proofs.Common.{◌≡◌, ℕ, zero, suc, ◌+◌, ◌-◌, ◌<◌, ◌≤◌, List, [], ◌∷◌, ◌++◌, length, map, take, refl, ap, sym, ◌∙◌, arith, Some}
 use Rattle.std.specs.Prelude.{slice_get}
 use Rattle.std.specs.List.{flat_map}
 use Rattle.std.proofs.lemmas.List.{append_assoc, length-append, length-map}
@@ -8,13 +8,10 @@ use Rattle.insn_forms.specs.declared.forms.Change.{Change}
 use Rattle.insn_forms.specs.Write.{Write}
 use Rattle.poke_batch.specs.Poke.{Item, poke, traps, tails, firsts}
 use Rattle.poke_batch.specs.Poke.Item.{Puts, Syncs}
-use Rattle.live_text.specs.declared.plan.LivePlan.{LivePlan}
-use Rattle.live_text.specs.declared.plan.LiveSite.{LiveSite}
-use Rattle.live_text.specs.declared.view.PlacedWrite.{PlacedWrite}
 use Rattle.live_text.specs.Plan.{chunks_of}
 use Rattle.live_text.specs.Flat.{placed, rounds, joined, ends, shape_of}
 use Rattle.live_text.specs.Past.{cut}
-use Rattle.live_text.specs.Laws.{writes_of, plan_items, WritesAreDue, WritesArePlaced, RequestsAreDue}
+use Rattle.live_text.specs.Laws.{writes_of, WritesAreDue, WritesArePlaced, RequestsAreDue}
 use Rattle.live_text.proofs.Shapes.{cut_is}
 
 -- the items of some rounds

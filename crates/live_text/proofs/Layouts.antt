@@ -1,9 +1,8 @@
 -- A plan laid out round by round is the plan as numbers.
-use Rattle.std.proofs.Common.{◌≡◌, ℕ, zero, suc, ◌+◌, ◌-◌, ◌<◌, ◌≤◌, List, [], ◌∷◌, ◌++◌, length, map, take, drop, get_or, refl, ap, sym, ◌∙◌, subst, arith, Result, Ok, Err, OnOk, All, IsSome}
-use Rattle.std.proofs.lemmas.List.{append_assoc, append-nil, map-append, length-append, length-map, take_more, get_or-map, take_all}
-use Rattle.std.specs.List.{take-map}
+use Rattle.std.proofs.Common.{◌≡◌, ℕ, zero, suc, ◌+◌, ◌<◌, ◌≤◌, List, [], ◌∷◌, ◌++◌, length, map, take, drop, get_or, refl, ap, sym, ◌∙◌, subst, arith, Result, Ok, Err, OnOk}
+use Rattle.std.proofs.lemmas.List.{append_assoc, append-nil, map-append, length-append, length-map, take_more}
 use Rattle.insn_forms.specs.declared.forms.Change.{Change}
-use Rattle.insn_forms.specs.Spelling.{spell, size}
+use Rattle.insn_forms.specs.Spelling.{size}
 use Rattle.insn_forms.specs.Write.{Write}
 use Rattle.poke_batch.specs.Poke.{spelled, writes_from, traps, tails, firsts}
 use Rattle.live_text.specs.declared.plan.LiveSite.{LiveSite}

@@ -1,26 +1,22 @@
 -- The history of the sites' bytes by number is that by address.
-use Rattle.std.proofs.Common.{◌≡◌, ◌≢◌, ◌⊎◌, inl, inr, ℕ, zero, suc, ◌+◌, ◌-◌, ◌<◌, ◌≤◌, ◌==◌, nat_lt, Bool, true, false, if◌then◌else◌, List, [], ◌∷◌, ◌++◌, length, map, take, get_or, refl, ap, sym, ◌∙◌, subst, arith, IsSome}
-use Rattle.std.specs.List.{Contains, take-map}
-use Rattle.std.proofs.lemmas.Bool.{le-ltb}
-use Rattle.std.proofs.lemmas.Bool.Decides.{Decides-eqb}
-use Rattle.std.proofs.lemmas.List.{length-append, get_or-append-add, get_or-append_right}
+use Rattle.std.proofs.Common.{◌≡◌, inl, inr, ℕ, zero, suc, ◌+◌, ◌-◌, ◌<◌, ◌≤◌, List, [], ◌∷◌, ◌++◌, length, map, take, get_or, refl, ap, sym, ◌∙◌, arith}
+use Rattle.std.proofs.lemmas.List.{length-append, get_or-append_right}
 use lib.ListN.{get_or-append}
 use mathlib.Core.Logic.{dite}
 use native.Mathlib.Decide.{ℕ_discrete}
-use Rattle.insn_forms.specs.Spelling.{spell, size}
+use Rattle.insn_forms.specs.Spelling.{size}
 use Rattle.insn_forms.specs.Write.{Write}
-use Rattle.insn_forms.specs.History.{Memory, put, written, byte}
+use Rattle.insn_forms.specs.History.{Memory, put, written}
 use Rattle.poke_batch.specs.Poke.{spelled}
-use Rattle.live_text.specs.declared.plan.LivePlan.{LivePlan}
 use Rattle.live_text.specs.declared.plan.LiveSite.{LiveSite}
 use Rattle.live_text.specs.declared.view.Shape.{Shape}
 use Rattle.live_text.specs.declared.view.PlacedWrite.{PlacedWrite}
-use Rattle.live_text.specs.Plan.{chunks_of, SitesApart, Stands}
-use Rattle.live_text.specs.Flat.{starts, place, placed, rounds, joined, shape_of}
-use Rattle.live_text.specs.Past.{memory, history, write_of, value}
-use Rattle.live_text.specs.Own.{HasByte, site_of, byte_number}
-use Rattle.live_text.specs.Laws.{writes_of, HoldsStarts, ValuesAreBytes}
-use Rattle.live_text.proofs.Writes.{Has, has_from, has_take, put_there, put_elsewhere}
+use Rattle.live_text.specs.Plan.{SitesApart}
+use Rattle.live_text.specs.Flat.{starts, place, placed, shape_of}
+use Rattle.live_text.specs.Past.{memory, write_of, value}
+use Rattle.live_text.specs.Own.{site_of, byte_number}
+use Rattle.live_text.specs.Laws.{writes_of, ValuesAreBytes}
+use Rattle.live_text.proofs.Writes.{Has, has_take, put_there, put_elsewhere}
 use Rattle.live_text.proofs.Values.{value_start}
 use Rattle.live_text.proofs.Rounds.{length-spelled}
 use Rattle.live_text.proofs.Bytes.{AreSpelt}

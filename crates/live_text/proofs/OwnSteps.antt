@@ -1,21 +1,18 @@
 -- What each step of a seat at its own table asks: the seat is of the table, the word is one of it, and the step keeps
 -- the rule.
-use Rattle.std.proofs.Common.{◌≡◌, ℕ, ◌+◌, ◌^◌, ◌-◌, ◌<◌, ◌≤◌, false, length, get_or, refl, ap, sym, ◌∙◌, subst, arith}
-use Rattle.std.specs.Option.{ForSome}
+use Rattle.std.proofs.Common.{◌≡◌, ℕ, ◌+◌, ◌^◌, ◌-◌, ◌<◌, ◌≤◌, false, length, get_or, ap, sym, ◌∙◌, subst, arith}
 use mathlib.Core.Option.{none}
 use Rattle.std.proofs.lemmas.List.{get_or_default}
 use Rattle.atomic_table.specs.Table.{step, Allows, Splits}
 use Rattle.live_text.specs.declared.view.Shape.{Shape}
-use Rattle.live_text.specs.declared.view.View.{View}
 use Rattle.live_text.specs.declared.view.PlacedWrite.{PlacedWrite}
 use Rattle.live_text.specs.declared.patch.PatchSeat.TheInside.{Inside as PatchInside}
 use Rattle.live_text.specs.declared.cpu.CpuSeat.TheInside.{Inside as CpuInside}
 use Rattle.live_text.specs.declared.text.LiveText.TheInside.{Inside as TextInside}
 use Rattle.live_text.specs.Past.{cut, place_at, IsShape}
-use Rattle.live_text.specs.Flat.{shape_of}
 use Rattle.live_text.specs.Laid.{laid_shape}
 use Rattle.live_text.specs.Rule.{generation_word, ack_word, Live}
-use Rattle.live_text.specs.Seats.{Placed, Patches, Sits, KnowsAll, WriteDue, RequestDue}
+use Rattle.live_text.specs.Seats.{Placed, Sits, KnowsAll, WriteDue, RequestDue}
 use Rattle.live_text.specs.Own.{IsOwn}
 use Rattle.live_text.specs.PatchKept.{patch_placed, KeepsPatch}
 use Rattle.live_text.specs.CpuKept.{cpu_placed, KeepsCpu}

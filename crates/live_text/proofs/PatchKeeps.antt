@@ -1,5 +1,5 @@
 -- Each step of the patch seat keeps the rule.
-use Rattle.std.proofs.Common.{◌≡◌, ◌≢◌, ◌⊎◌, inl, inr, ℕ, zero, suc, ◌+◌, ◌-◌, ◌<◌, ◌≤◌, List, [], ◌∷◌, length, get_or, set, refl, ap, sym, ◌∙◌, subst, arith, length-set, get_or-set_same, get_or-set_other, All}
+use Rattle.std.proofs.Common.{◌≡◌, ℕ, zero, suc, ◌+◌, ◌-◌, ◌<◌, ◌≤◌, List, [], ◌∷◌, length, get_or, set, refl, ap, sym, ◌∙◌, subst, arith, length-set, get_or-set_same, get_or-set_other, All}
 use mathlib.Core.Logic.{dite}
 use mathlib.Core.Option.{none, some, some-injective, some-ne-none, Option}
 use native.Mathlib.Decide.{ℕ_discrete}
@@ -8,13 +8,11 @@ use lib.Seq.{set-get_or}
 use Rattle.atomic_table.specs.Table.{State, Me, step, keeps, Allows}
 use Rattle.live_text.specs.declared.view.Shape.{Shape}
 use Rattle.live_text.specs.declared.view.PatchView.{PatchView}
-use Rattle.live_text.specs.declared.view.CpuView.{CpuView}
 use Rattle.live_text.specs.declared.view.View.{View}
-use Rattle.live_text.specs.declared.view.Role.{Role}
 use Rattle.live_text.specs.declared.view.Role.TheVariants.{Patch, Cpu}
-use Rattle.live_text.specs.Past.{value, cut, place_at, IsShape}
+use Rattle.live_text.specs.Past.{cut, place_at, IsShape}
 use Rattle.live_text.specs.Steps.{wrote, requested, loaded_ack}
-use Rattle.live_text.specs.Rule.{generation_word, ack_word, Leads, Fits, Follows, Live}
+use Rattle.live_text.specs.Rule.{generation_word, ack_word, Leads, Follows, Live}
 use Rattle.live_text.specs.Seats.{KnowsAll}
 use Rattle.live_text.specs.Plays.{Wrote, Requested, LoadedAck}
 use Rattle.live_text.proofs.Values.{byte_at, value_here, value_other}

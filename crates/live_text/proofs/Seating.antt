@@ -1,26 +1,24 @@
 -- The table at its start, the split of the processors' seats, and the bytes at the end.
-use Rattle.std.proofs.Common.{◌≡◌, ◌≢◌, ◌⊎◌, inl, inr, ℕ, zero, suc, ◌+◌, ◌-◌, ◌<◌, ◌≤◌, false, List, [], ◌∷◌, ◌++◌, length, replicate, get_or, set, refl, ap, sym, ◌∙◌, subst, arith, length-append, Option, Some, None}
+use Rattle.std.proofs.Common.{◌≡◌, ◌⊎◌, inl, inr, ℕ, zero, suc, ◌+◌, ◌-◌, ◌<◌, ◌≤◌, List, [], ◌∷◌, ◌++◌, length, replicate, get_or, set, refl, ap, sym, ◌∙◌, subst, arith, length-append, Some, None}
 use mathlib.Core.Logic.{dite}
-use mathlib.Core.Option.{none, some, some-injective, some-ne-none}
-use native.Mathlib.Decide.{ℕ_discrete, dec_le}
+use mathlib.Core.Option.{some, some-injective, some-ne-none}
+use native.Mathlib.Decide.{ℕ_discrete}
 use lib.ListN.{get_elem?, length-replicate, get_or-append}
 use Rattle.std.proofs.lemmas.List.{get_or-append_right, get_or_push}
-use Rattle.atomic_table.specs.Table.{State, opening, Splits, Final, Seen}
-use Rattle.atomic_table.proofs.Lists.{at_snoc}
+use Rattle.atomic_table.specs.Table.{opening, Splits, Final, Seen}
 use Rattle.live_text.specs.declared.view.Shape.{Shape}
 use Rattle.live_text.specs.declared.view.PatchView.{PatchView}
-use Rattle.live_text.specs.declared.view.CpuView.{CpuView}
 use Rattle.live_text.specs.declared.view.View.{View}
-use Rattle.live_text.specs.declared.view.Role.TheVariants.{Patch, Cpu}
-use Rattle.live_text.specs.Past.{value, cut, Found, IsShape}
-use Rattle.live_text.specs.Steps.{zeros, first_words, first_view, first_cpu, seated, newcomer, no_bytes}
-use Rattle.live_text.specs.Rule.{generation_word, ack_word, cached, Leads, Fits, Follows, Live}
+use Rattle.live_text.specs.declared.view.Role.TheVariants.{Patch}
+use Rattle.live_text.specs.Past.{value, cut, IsShape}
+use Rattle.live_text.specs.Steps.{zeros, first_words, first_view, first_cpu, seated, newcomer}
+use Rattle.live_text.specs.Rule.{generation_word, ack_word, Leads, Follows, Live}
 use Rattle.std.specs.Prelude.{slice_get}
 use Rattle.std.proofs.lemmas.Option.{same_Some}
 use Rattle.live_text.specs.Seats.{Placed, Patches, Sits}
 use Rattle.live_text.specs.Own.{TextState, IsSeated, AreSeated}
 use Rattle.live_text.proofs.Values.{same_everywhere, value_start}
-use Rattle.live_text.proofs.PatchKeeps.{St, IsFirst, at_patch, follows_on, inside_list}
+use Rattle.live_text.proofs.PatchKeeps.{St, IsFirst, at_patch, follows_on}
 use Rattle.live_text.proofs.CpuKeeps.{empty_cache}
 
 zero_at : (n i : ℕ) → get_or (zeros n) i 0 ≡ 0

@@ -1,30 +1,28 @@
 -- The numbers of a plan that stands keep what the rule asks of them.
-use Rattle.std.proofs.Common.{◌≡◌, ◌≢◌, ◌⊎◌, inl, inr, ℕ, zero, suc, ◌+◌, ◌-◌, ◌<◌, ◌≤◌, List, [], ◌∷◌, ◌++◌, length, map, take, get_or, refl, ap, sym, ◌∙◌, subst, arith, All, IsSome, Option, Some, None}
+use Rattle.std.proofs.Common.{◌≡◌, inl, inr, ℕ, zero, suc, ◌+◌, ◌<◌, ◌≤◌, List, [], ◌∷◌, ◌++◌, length, map, take, get_or, refl, ap, sym, ◌∙◌, subst, arith, All, Option, Some, None}
 use Rattle.std.specs.Prelude.{unwrap_or}
 use Rattle.std.specs.List.{Contains}
-use Rattle.std.proofs.lemmas.List.{length-append, length-map, get_or-map, get_or_default}
-use Rattle.std.proofs.lemmas.List.Elements.{All-get_or, All-append}
+use Rattle.std.proofs.lemmas.List.{length-append, length-map}
+use Rattle.std.proofs.lemmas.List.Elements.{All-append}
 use Rattle.insn_forms.specs.declared.forms.Form.{Form}
 use Rattle.insn_forms.specs.declared.forms.Change.{Change}
 use Rattle.insn_forms.specs.Spelling.{spell, size}
 use Rattle.insn_forms.specs.Write.{Write}
 use Rattle.insn_forms.specs.History.{Memory, put, written}
-use Rattle.insn_forms.proofs.Spellings.{spell-bytes, size_pos}
+use Rattle.insn_forms.proofs.Spellings.{spell-bytes}
 use Rattle.poke_batch.specs.Poke.{spelled, traps, tails, firsts}
 use Rattle.poke_batch.specs.Underway.{AreApart}
 use Rattle.live_text.specs.declared.plan.LivePlan.{LivePlan}
 use Rattle.live_text.specs.declared.plan.LiveSite.{LiveSite}
 use Rattle.live_text.specs.declared.view.Shape.{Shape}
-use Rattle.live_text.specs.declared.view.PlacedWrite.{PlacedWrite}
 use Rattle.live_text.specs.Plan.{chunks_of, SitesApart, IsChange, IsChunk, Stands}
 use Rattle.live_text.specs.Flat.{starts, place, placed, rounds, joined, ends, shape_of}
-use Rattle.live_text.specs.Past.{memory, history, write_of, value, cut, place_at, IsShape}
+use Rattle.live_text.specs.Past.{memory, history, write_of, value, cut, IsShape}
 use Rattle.live_text.specs.Table.{byte_after}
 use Rattle.live_text.proofs.Writes.{Has, has_from, has_contains, has_cases, has_take, put_cases}
 use Rattle.live_text.proofs.Values.{no_write, value_start}
-use Rattle.live_text.proofs.Rounds.{round, IsSpellable, IsPoked, IsOf, round_of, spelt_as}
-use Rattle.live_text.proofs.Bytes.{AreSpelt}
-use Rattle.live_text.proofs.Standing.{AreChunks, IsNumbered, IsSited, sited, first_apart, rest_apart, change_size, change_numbered, change_in, chunk_at}
+use Rattle.live_text.proofs.Rounds.{round, IsSpellable, IsPoked, IsOf, round_of}
+use Rattle.live_text.proofs.Standing.{IsNumbered, IsSited, sited, first_apart, rest_apart, change_size, change_numbered, change_in, chunk_at}
 
 -- a cut is the number of writes before it
 cut_from : (n : ℕ) (lists : List (List Write)) (r : ℕ) → get_or (ends n lists) r (n + length (joined lists)) ≡ n + length (joined (take r lists))

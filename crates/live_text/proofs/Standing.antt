@@ -1,5 +1,5 @@
 -- What a plan that stands gives: sizes stay, sites keep their numbers, and every write is to a byte of a site.
-use Rattle.std.proofs.Common.{◌≡◌, ◌≢◌, ◌⊎◌, inl, inr, ℕ, zero, suc, ◌+◌, ◌-◌, ◌*◌, ◌<◌, ◌≤◌, ◌==◌, nat_lt, Bool, true, false, if◌then◌else◌, List, [], ◌∷◌, ◌++◌, length, map, take, get_or, refl, ap, sym, ◌∙◌, subst, arith, All, AllPairs, IsSome, Option, Some, None}
+use Rattle.std.proofs.Common.{◌≡◌, ◌⊎◌, inl, inr, ℕ, zero, suc, ◌+◌, ◌-◌, ◌<◌, ◌≤◌, ◌==◌, nat_lt, Bool, true, false, if◌then◌else◌, List, [], ◌∷◌, ◌++◌, length, take, get_or, refl, ap, sym, ◌∙◌, subst, arith, All, Some}
 use Rattle.std.specs.Prelude.{slice_get}
 use Rattle.std.specs.List.{Contains}
 use Rattle.std.proofs.lemmas.Bool.{le-ltb}
@@ -9,18 +9,16 @@ use Rattle.std.proofs.lemmas.List.Elements.{All-contains}
 use Rattle.insn_forms.specs.declared.forms.Form.{Form}
 use Rattle.insn_forms.specs.declared.forms.Form.TheVariants.{Nop2}
 use Rattle.insn_forms.specs.declared.forms.Change.{Change}
-use Rattle.insn_forms.specs.Spelling.{spell, size}
-use Rattle.insn_forms.specs.Write.{Write}
+use Rattle.insn_forms.specs.Spelling.{size}
 use Rattle.insn_forms.proofs.Spellings.{size_pos}
 use Rattle.poke_batch.specs.Poke.{spelled}
-use Rattle.poke_batch.specs.Underway.{AreApart}
 use Rattle.live_text.specs.declared.plan.LivePlan.{LivePlan}
 use Rattle.live_text.specs.declared.plan.LiveSite.{LiveSite}
 use Rattle.live_text.specs.Plan.{chunks_of, changed, form_after, SitesApart, IsChange, IsChunk, Stands}
 use Rattle.live_text.specs.Flat.{starts, place}
 use Rattle.live_text.specs.Layout.{IsInRow}
 use Rattle.live_text.proofs.Writes.{Has, has_from, has_contains}
-use Rattle.live_text.proofs.Rounds.{IsSpellable, IsPoked, length-spelled}
+use Rattle.live_text.proofs.Rounds.{length-spelled}
 use Rattle.live_text.proofs.Bytes.{AreSpelt}
 
 -- the first site ends before the sites after it begin

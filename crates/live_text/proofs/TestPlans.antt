@@ -1,7 +1,6 @@
 -- The plan of a test stands.
-use Rattle.std.proofs.Common.{◌≡◌, inl, inr, ℕ, zero, suc, ◌+◌, ◌<◌, ◌≤◌, ◌^◌, true, false, List, [], ◌∷◌, length, take, get_or, refl, ap, sym, ◌∙◌, subst, arith, All, AllPairs, IsSome, Some, None}
-use Rattle.std.specs.Prelude.{slice_get, is_none, ◌||◌, Bool, MatchBool, Option}
-use Rattle.std.proofs.lemmas.List.Elements.{All-cons}
+use Rattle.std.proofs.Common.{◌≡◌, ℕ, zero, suc, ◌<◌, ◌^◌, true, false, List, [], ◌∷◌, length, get_or, refl, ap, sym, subst, arith, All, Some}
+use Rattle.std.specs.Prelude.{is_none, ◌||◌, Bool, MatchBool}
 use Rattle.std.proofs.lemmas.Option.{same_Some}
 use Rattle.insn_forms.specs.declared.forms.Form.TheVariants.{Nop2}
 use Rattle.insn_forms.specs.declared.forms.Change.{Change}
@@ -9,8 +8,8 @@ use Rattle.insn_forms.specs.Spelling.{spell, size}
 use Rattle.live_text.specs.declared.plan.LivePlan.{LivePlan}
 use Rattle.live_text.specs.declared.plan.LiveSite.{LiveSite}
 use Rattle.live_text.specs.declared.view.View.{View}
-use Rattle.live_text.specs.Plan.{chunks_of, SitesApart, IsChange, IsChunk, Stands}
-use Rattle.live_text.specs.Own.{HasByte, site_of}
+use Rattle.live_text.specs.Plan.{SitesApart, IsChange, IsChunk, Stands}
+use Rattle.live_text.specs.Own.{HasByte}
 use Rattle.live_text.specs.Rule.{cached}
 use Rattle.live_text.specs.Steps.{fetched}
 use Rattle.live_text.specs.Calls.{Reads}

@@ -1,5 +1,5 @@
 -- What the calls on the shared words answer, by the views before and after.
-use Rattle.std.specs.Prelude.{◌≡◌, ◌≢◌, ◌≤◌, ◌<◌, ◌+◌, ◌⊎◌, Bool, true, ◌||◌, ℕ, List, Some, take, is_none, MatchBool}
+use Rattle.std.specs.Prelude.{◌≡◌, ◌⊎◌, Bool, ◌||◌, ℕ, Some, take, is_none, MatchBool}
 use Rattle.insn_forms.specs.History.{IsCandidate}
 use Rattle.live_text.specs.declared.text.Put.{Put}
 use Rattle.live_text.specs.declared.text.Put.TheVariants.{Stored, Wait, Finished}

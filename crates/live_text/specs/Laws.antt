@@ -1,12 +1,11 @@
 -- What a plan as numbers means: the items of its pokes, and the history of its sites' bytes.
-use Rattle.std.specs.Prelude.{◌≡◌, ◌≤◌, ◌<◌, ◌+◌, ℕ, List, length, slice_get, slice_index, slice_index_or, Some, IfSome}
+use Rattle.std.specs.Prelude.{◌≡◌, ◌≤◌, ◌<◌, ◌+◌, ℕ, List, length, slice_get, slice_index, Some}
 use Rattle.std.specs.List.{flat_map}
 use Rattle.insn_forms.specs.Write.{Write}
 use Rattle.insn_forms.specs.History.{Memory, byte}
 use Rattle.poke_batch.specs.Poke.{Item, poke, spelled}
 use Rattle.poke_batch.specs.Poke.Item.{Puts, Syncs}
 use Rattle.live_text.specs.declared.plan.LivePlan.{LivePlan}
-use Rattle.live_text.specs.declared.view.PlacedWrite.{PlacedWrite}
 use Rattle.live_text.specs.Plan.{chunks_of, Stands}
 use Rattle.live_text.specs.Flat.{placed, rounds, joined, shape_of}
 use Rattle.live_text.specs.Past.{cut, value}

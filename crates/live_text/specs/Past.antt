@@ -1,5 +1,5 @@
 -- What the bytes of the sites are after each of the plan's writes, and which of its writes stand before a request.
-use Rattle.std.specs.Prelude.{◌≡◌, ◌≤◌, ◌<◌, ◌+◌, ◌-◌, ◌^◌, ◌==◌, if◌then◌else◌, ℕ, zero, suc, List, length, map, slice_index, slice_index_or}
+use Rattle.std.specs.Prelude.{◌≡◌, ◌≤◌, ◌<◌, ◌+◌, ◌-◌, ◌==◌, if◌then◌else◌, ℕ, zero, suc, List, length, map, slice_index_or}
 use Rattle.insn_forms.specs.Write.{Write}
 use Rattle.insn_forms.specs.History.{Memory, text_memory, byte}
 use Rattle.live_text.specs.declared.view.Shape.{Shape}

@@ -1,5 +1,5 @@
 -- What holds of the seats' views between steps, and what contracts see of a seat.
-use Rattle.std.specs.Prelude.{◌≡◌, ◌≤◌, ◌<◌, ◌+◌, ◌⊎◌, Bool, true, false, ◌||◌, ℕ, Some, None, length, slice_index_or, All, is_none, MatchBool}
+use Rattle.std.specs.Prelude.{◌≡◌, ◌≤◌, ◌<◌, ◌+◌, ℕ, Some, length, All}
 use Rattle.atomic_table.specs.Seated.{TableId}
 use Rattle.live_text.specs.declared.view.PatchView.{PatchView}
 use Rattle.live_text.specs.declared.view.View.{View}

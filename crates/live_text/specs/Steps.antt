@@ -1,8 +1,6 @@
 -- What each step makes of its seat's view.
 use Rattle.std.specs.Prelude.{◌+◌, ◌-◌, ◌^◌, ℕ, true, false, List, [], ◌++◌, length, replicate, slice_set, max, Option, None, Some}
 use Rattle.live_text.specs.declared.view.Shape.{Shape}
-use Rattle.live_text.specs.declared.view.PatchView.{PatchView}
-use Rattle.live_text.specs.declared.view.CpuView.{CpuView}
 use Rattle.live_text.specs.declared.view.View.{View}
 use Rattle.live_text.specs.declared.view.Role.TheVariants.{Patch, Cpu}
 use Rattle.live_text.specs.Past.{cut, seek}

@@ -1,5 +1,5 @@
 -- The plan of a test.
-use Rattle.std.specs.Prelude.{◌≡◌, List, [], ◌∷◌, length}
+use Rattle.std.specs.Prelude.{◌≡◌, [], ◌∷◌, length}
 use Rattle.insn_forms.specs.declared.forms.Form.TheVariants.{Nop5, Jmp32}
 use Rattle.insn_forms.specs.declared.forms.Change.{Change}
 use Rattle.live_text.specs.declared.plan.LivePlan.{LivePlan}

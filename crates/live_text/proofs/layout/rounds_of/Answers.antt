@@ -1,7 +1,6 @@
-use Rattle.std.proofs.Common.{List, ◌++◌, ◌∷◌, [], map, take, sym, ap, ◌∙◌, subst}
+use Rattle.std.proofs.Common.{List, map, take, sym, subst}
 use Rattle.insn_forms.specs.declared.forms.Change.{Change}
 use Rattle.insn_forms.specs.Write.{Write}
-use Rattle.poke_batch.specs.Poke.{traps, tails, firsts}
 use Rattle.live_text.specs.Flat.{rounds}
 use Rattle.live_text.specs.Layout.{AreRounds, AddsChunk}
 use Rattle.live_text.proofs.Layouts.{chunk_more}

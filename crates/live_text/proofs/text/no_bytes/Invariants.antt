@@ -1,4 +1,4 @@
-use Rattle.std.proofs.Common.{◌≡◌, ℕ, Option, None, replicate}
+use Rattle.std.proofs.Common.{◌≡◌}
 use Rattle.live_text.proofs.CpuKeeps.{nothing}
 use Rattle.live_text.proofs.text.no_bytes.Given as goal
 

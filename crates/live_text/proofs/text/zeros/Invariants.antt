@@ -1,4 +1,4 @@
-use Rattle.std.proofs.Common.{◌≡◌, replicate}
+use Rattle.std.proofs.Common.{◌≡◌}
 use Rattle.live_text.specs.Steps.{zeros}
 use Rattle.live_text.proofs.text.zeros.Given as goal
 

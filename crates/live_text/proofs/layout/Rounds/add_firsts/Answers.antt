@@ -1,4 +1,4 @@
-use Rattle.std.proofs.Common.{ap, ◌∙◌, List, length, ◌++◌, ◌∷◌, [], sym, map, take, ℕ}
+use Rattle.std.proofs.Common.{ap, ◌∙◌, List, length, ◌++◌, ◌∷◌, [], sym, map, ℕ}
 use Rattle.std.proofs.lemmas.List.{take_all}
 use Rattle.insn_forms.specs.declared.forms.Change.{Change}
 use Rattle.live_text.specs.declared.view.PlacedWrite.{PlacedWrite}

@@ -1,4 +1,4 @@
-use Rattle.std.proofs.Common.{ap, ◌∙◌, ◌+◌, List, ℕ, get_or, take, ◌++◌, ◌∷◌, [], arith, sym}
+use Rattle.std.proofs.Common.{ap, ◌∙◌, List, ℕ, get_or, take, ◌++◌, ◌∷◌, [], arith, sym}
 use Rattle.std.proofs.lemmas.List.{append_assoc}
 use Rattle.live_text.specs.declared.view.PlacedWrite.{PlacedWrite}
 use Rattle.live_text.specs.Layout.{row_from}

@@ -2,7 +2,6 @@ use Rattle.std.proofs.Common.{◌≡◌, ℕ, ◌+◌, List, ◌++◌, drop, ap,
 use Rattle.std.proofs.lemmas.Result.{on_ok_weaker}
 use Rattle.poke_batch.specs.Poke.{spelled}
 use Rattle.live_text.specs.declared.view.PlacedWrite.{PlacedWrite}
-use Rattle.live_text.specs.Flat.{place}
 use Rattle.live_text.specs.Layout.{row_from}
 use Rattle.live_text.proofs.Layouts.{tail_row}
 use Rattle.live_text.proofs.layout.Rounds.put_tail.Goals as goal

@@ -1,4 +1,4 @@
-use Rattle.std.proofs.Common.{ℕ, ◌≤◌, List, All, sym, ◌∙◌, subst, arith}
+use Rattle.std.proofs.Common.{ℕ, ◌≤◌, List, All, sym, ◌∙◌, subst}
 use Rattle.live_text.specs.Seats.{Placed, KnowsAll}
 use Rattle.live_text.proofs.Bytes.{reach_more, reach_all}
 use Rattle.live_text.proofs.patch.PatchSeat.knows_all.Goals as goal

@@ -1,4 +1,4 @@
-use Rattle.std.proofs.Common.{◌≡◌, ◌<◌, ◌≤◌, ◌+◌, ℕ, List, [], length, ap, sym, ◌∙◌, subst, arith}
+use Rattle.std.proofs.Common.{◌<◌, ℕ, List, [], length, ap, sym, ◌∙◌, subst, arith}
 use Rattle.atomic_table.specs.Table.{opening}
 use Rattle.live_text.specs.declared.view.Shape.{Shape}
 use Rattle.live_text.specs.Plan.{chunks_of}

@@ -1,7 +1,7 @@
-use Rattle.std.proofs.Common.{◌≡◌, ◌<◌, ◌+◌, ℕ, length, ap, sym, subst, ◌∙◌, arith}
+use Rattle.std.proofs.Common.{◌<◌, ◌+◌, ℕ, length, ap, sym, subst, ◌∙◌, arith}
 use Rattle.live_text.specs.Flat.{starts}
 use Rattle.live_text.specs.Own.{TextState, byte_number}
-use Rattle.live_text.proofs.Bytes.{there, numbered}
+use Rattle.live_text.proofs.Bytes.{numbered}
 use Rattle.live_text.proofs.text.LiveText.number_of.Goals as goal
 
 pub index-requires : goal.index-requires
