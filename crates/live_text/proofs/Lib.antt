@@ -5,7 +5,6 @@ mod CpuKeeps
 mod Seating
 mod OwnSteps
 mod Rounds
-mod Chunk
 mod Bytes
 mod Layouts
 mod Standing
