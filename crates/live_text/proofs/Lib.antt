@@ -1,0 +1,14 @@
+mod Writes
+mod Values
+mod PatchKeeps
+mod CpuKeeps
+mod Seating
+mod OwnSteps
+mod Rounds
+mod Bytes
+mod Layouts
+mod Standing
+mod Shapes
+mod Items
+mod Numbers
+mod TestPlans

@@ -1,0 +1,17 @@
+pub mod Plan
+pub mod Flat
+pub mod Past
+pub mod Steps
+pub mod Rule
+pub mod Seats
+pub mod Plays
+pub mod Layout
+pub mod Laid
+pub mod Own
+pub mod Calls
+pub mod Table
+pub mod Laws
+pub mod Tests
+pub mod PatchKept
+pub mod CpuKept
+pub mod TextKept
