@@ -12,3 +12,6 @@ mod world;
 pub use acted::Acted;
 pub use words::Words;
 pub use world::World;
+
+#[cfg(test)]
+mod tests;

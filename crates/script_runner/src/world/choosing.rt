@@ -136,6 +136,7 @@ impl World {
     pub fn choose(&self, words: &mut Words) -> Option<Event>
         ensures { (ch : Chooser) → Chooses self.now words.old ch → MatchOption result (IsOver ch words.new) (λ e. TakesNext self.now.image ch e words.new) }
     {
+        // (for the proof: who is lent an image knows that it is accepted)
         let _image = &self.image;
         match self.pick(words) {
             Some(pick) => Some(self.event_of(pick, words)),

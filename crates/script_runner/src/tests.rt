@@ -1,0 +1,364 @@
+//! Small modules that run by given events, with values from outside.
+
+use crate::{Acted, World};
+use elf_build::{KeyStart, Name, Plan, PlanFunction, PlanKey, PlanSite, write};
+use elf_module::ElfFile;
+use module_image::Image;
+use poke_base::{CodeBytes, Line};
+use run_journal::Event;
+use script_text::Script;
+use std::alloc::Global;
+use std::process::Abort;
+use std::test::Fail;
+
+/// Where the text of each module stands.
+const F: u64 = 0x40_1000;
+
+/// A text with one site, a key `k` and functions.
+struct Small<'a> {
+    text: &'a [u8],
+    site: PlanSite,
+    key: KeyStart,
+    functions: &'a [(&'a [u8], u64)],
+}
+
+/// A switch between two loads, each with an output and a return after it.
+const BRANCH: Small<'static> = Small {
+    text: b"\x0f\x1fD\0\0\xb8\x01\0\0\0\xe6\x10\xc3\xcc\xb8\x02\0\0\0\xe6\x10\xc3",
+    site: PlanSite::Jump {
+        at: F,
+        target: F + 14,
+        key: 0,
+        likely: false,
+    },
+    key: KeyStart::Count(0),
+    functions: &[(b"f", F)],
+};
+
+/// A loop with a switch in it.
+const LOOP: Small<'static> = Small {
+    text: b"\xb9\x03\0\0\0\x0f\x1fD\0\0\xff\xc9\x75\xf7\xc3\xff\xc0\xeb\xf7",
+    site: PlanSite::Jump {
+        at: F + 5,
+        target: F + 15,
+        key: 0,
+        likely: false,
+    },
+    key: KeyStart::Count(0),
+    functions: &[(b"f", F)],
+};
+
+/// A call of the first of two functions.
+const CALL: Small<'static> = Small {
+    text: b"\xe8\x03\0\0\0\xe6\x10\xc3\xb8\x01\0\0\0\xc3\xb8\x02\0\0\0\xc3",
+    site: PlanSite::Call {
+        at: F,
+        key: 0,
+        tail: false,
+    },
+    key: KeyStart::Func(F + 8),
+    functions: &[(b"f", F), (b"b", F + 14)],
+};
+
+/// A call of a function that ends with a tail call.
+const TAIL: Small<'static> = Small {
+    text: b"\xe8\x03\0\0\0\xe6\x10\xf4\xe9\0\0\0\0\xb8\x01\0\0\0\xc3",
+    site: PlanSite::Call {
+        at: F + 8,
+        key: 0,
+        tail: true,
+    },
+    key: KeyStart::Func(F + 13),
+    functions: &[(b"f", F), (b"a", F + 13)],
+};
+
+/// A load where the file says that there is a switch.
+const FOREIGN: Small<'static> = Small {
+    text: b"\xb8\x01\0\0\0\xc3",
+    site: PlanSite::Jump {
+        at: F,
+        target: F + 5,
+        key: 0,
+        likely: false,
+    },
+    key: KeyStart::Count(0),
+    functions: &[(b"f", F)],
+};
+
+/// A traced function, after the one that is called where it is traced.
+const TRACE: Small<'static> = Small {
+    text: b"\xc3\x0f\x1fD\0\0\xc3",
+    site: PlanSite::Trace { at: F + 1 },
+    key: KeyStart::Count(0),
+    functions: &[(b"ftrace_caller", F), (b"f", F + 1)],
+};
+
+/// A name of these bytes.
+fn name(bytes: &[u8]) -> Name {
+    let mut name = Name::new();
+    let _ = name.try_extend_from_slice(bytes);
+    name
+}
+
+/// The file of a module.
+fn file(alloc: Global, small: &Small<'_>) -> Result<Vec<u8>, Fail> {
+    let mut plan = Plan {
+        base: F,
+        text: Vec::from_slice(alloc, small.text)?,
+        sites: Vec::from_slice(alloc, &[small.site])?,
+        keys: Vec::new(alloc),
+        functions: Vec::new(alloc),
+    };
+    plan.keys.push(PlanKey {
+        name: name(b"k"),
+        start: small.key,
+    })?;
+    for (bytes, at) in small.functions {
+        plan.functions.push(PlanFunction {
+            name: name(bytes),
+            at: *at,
+        })?;
+    }
+    let mut out = Vec::new(alloc);
+    if plan.fits() {
+        write(&plan, &mut out)?;
+    }
+    Ok(out)
+}
+
+/// A module and a script before the first event.
+fn world<R: Abort + AllocGlobal>(rt: &R, small: &Small<'_>, text: &[u8]) -> Result<World, Fail> {
+    let file = file(rt.alloc(), small)?;
+    assert!(rt; file.len() < 10_000);
+    assert!(rt; text.len() < 100);
+    let image = Image::accept(rt.alloc(), &ElfFile::read(&file)?)?;
+    let script = Script::read(rt.alloc(), text, &image)?;
+    Ok(World::new(rt.alloc(), image, script)?)
+}
+
+/// A run by events, and all that it shows.
+struct Run<'a> {
+    small: &'a Small<'a>,
+    script: &'a [u8],
+    /// Events by letters: those of a journal, all of processor 0, and fetches: `n` of a no-operation, `c` of a breakpoint,
+    /// `x` of the bytes after this field. An event in capitals may not come.
+    events: &'a [u8],
+    fetched: &'a [u8],
+    shown: &'a [u8],
+    /// What tracers last saw.
+    seen: Acted,
+    finished: bool,
+}
+
+/// A fetch of processor 0.
+fn fetch(bytes: &[u8]) -> Event {
+    let mut fetched = CodeBytes::new();
+    let _ = fetched.try_extend_from_slice(bytes);
+    Event::At(0, fetched)
+}
+
+/// The event of a letter.
+fn event(letter: u8, fetched: &[u8]) -> Event {
+    match letter {
+        b'b' => Event::Begin,
+        b'w' => Event::Write,
+        b's' => Event::Request,
+        b't' => Event::Take(0),
+        b'r' => Event::Return,
+        b'p' => Event::Plain(0),
+        b'h' => Event::Handle(0),
+        b'i' => Event::Tick(0),
+        b'q' => Event::Plain(1),
+        b'n' => fetch(b"\x0f\x1fD\0\0"),
+        b'c' => fetch(b"\xcc"),
+        _ => fetch(fetched),
+    }
+}
+
+/// Tries events, and checks which come, what they show and what tracers see.
+fn runs<R: Abort + AllocGlobal>(rt: &R, run: &Run<'_>) -> Result<(), Fail> {
+    let mut world = world(rt, run.small, run.script)?;
+    let mut shown = Vec::new(rt.alloc());
+    let mut seen = Acted::Plain;
+    for letter in run.events {
+        let event = event(letter.to_ascii_lowercase(), run.fetched);
+        let comes = letter.is_ascii_lowercase();
+        assert_eq!(rt; world.may(&event), comes, "{event:?}");
+        let mut line = Line::new();
+        match world.act(&event, &mut line) {
+            Some(Acted::Plain) | None => {}
+            Some(acted) => seen = acted,
+        }
+        shown.extend_from_slice(&line)?;
+    }
+    assert_eq!(rt; shown.as_slice(), run.shown);
+    assert_eq!(rt; seen, run.seen);
+    assert_eq!(rt; world.finished(), run.finished);
+    Ok(())
+}
+
+#[test]
+fn a_stale_byte_gives_the_old_instruction_whole(rt: HostRuntime) -> Result<(), Fail> {
+    runs(
+        &rt,
+        &Run {
+            small: &BRANCH,
+            script: b"cpu f\ninc k\nrun 3",
+            events: b"WSTRNPbBRPHIQwWnstTwwwwstwstrpppPI",
+            fetched: b"",
+            shown: b"update 1 begin 1\n0 401000 nop\nupdate 1 done 1\n0 out 10 01\n0 done\n",
+            seen: Acted::Plain,
+            finished: true,
+        },
+    )
+}
+
+#[test]
+fn an_open_update_is_not_the_end(rt: HostRuntime) -> Result<(), Fail> {
+    runs(
+        &rt,
+        &Run {
+            small: &BRANCH,
+            script: b"cpu f\ninc k\nrun 3",
+            events: b"bwnstwwwwstwst",
+            fetched: b"",
+            shown: b"update 1 begin 1\n0 401000 nop\n",
+            seen: Acted::Plain,
+            finished: false,
+        },
+    )
+}
+
+#[test]
+fn old_bytes_may_not_come_after_a_request_is_taken(rt: HostRuntime) -> Result<(), Fail> {
+    runs(
+        &rt,
+        &Run {
+            small: &BRANCH,
+            script: b"cpu f\ninc k\nrun 3",
+            events: b"bwstNcwwwwsThtT",
+            fetched: b"",
+            shown: b"update 1 begin 1\n0 401000 jmp 40100e\n",
+            seen: Acted::Plain,
+            finished: false,
+        },
+    )
+}
+
+#[test]
+fn old_bytes_may_not_come_after_the_handler(rt: HostRuntime) -> Result<(), Fail> {
+    runs(
+        &rt,
+        &Run {
+            small: &LOOP,
+            script: b"cpu f\nrun 1\ninc k\nrun 1",
+            events: b"pPbwcPIhppppNc",
+            fetched: b"",
+            shown: b"update 1 begin 1\n0 401005 jmp 40100f\n",
+            seen: Acted::Plain,
+            finished: false,
+        },
+    )
+}
+
+#[test]
+fn torn_bytes_may_not_come(rt: HostRuntime) -> Result<(), Fail> {
+    runs(
+        &rt,
+        &Run {
+            small: &CALL,
+            script: b"cpu f\ncall k b\nrun 1",
+            events: b"bwXstwX",
+            fetched: b"\xe8\x09\0\0\0",
+            shown: b"update 1 begin 1\n",
+            seen: Acted::Plain,
+            finished: false,
+        },
+    )
+}
+
+#[test]
+fn a_tail_call_becomes_a_return(rt: HostRuntime) -> Result<(), Fail> {
+    runs(
+        &rt,
+        &Run {
+            small: &TAIL,
+            script: b"cpu f\ncall k -\nrun 4",
+            events: b"bwstwwwwstwstrpxpp",
+            fetched: b"\xc3",
+            shown: b"update 1 begin 1\nupdate 1 done 1\n0 401008 ret\n0 out 10 00\n0 halt\n",
+            seen: Acted::Plain,
+            finished: true,
+        },
+    )
+}
+
+#[test]
+fn steps_that_open_no_update_are_passed(rt: HostRuntime) -> Result<(), Fail> {
+    runs(
+        &rt,
+        &Run {
+            small: &BRANCH,
+            script: b"cpu f\ndrop 7\ndec k\ndisable k\nrun 2\ninc k",
+            events: b"NbbbBnBpPb",
+            fetched: b"",
+            shown: b"drop 7\nupdate 1 refused count 0\nupdate 2 done 0\n0 401000 nop\nupdate 3 begin 1\n",
+            seen: Acted::Drop { place: 7 },
+            finished: false,
+        },
+    )
+}
+
+#[test]
+fn a_clash_opens_no_update(rt: HostRuntime) -> Result<(), Fail> {
+    runs(
+        &rt,
+        &Run {
+            small: &FOREIGN,
+            script: b"cpu f\ninc k\nrun 1",
+            events: b"bWBp",
+            fetched: b"",
+            shown: b"update 1 refused clash 401000 b801000000 0f1f440000\n",
+            seen: Acted::Plain,
+            finished: true,
+        },
+    )
+}
+
+#[test]
+fn a_traced_call_is_a_hit(rt: HostRuntime) -> Result<(), Fail> {
+    runs(
+        &rt,
+        &Run {
+            small: &TRACE,
+            script: b"cpu f\ntrace f\nrun 3",
+            events: b"bwstwwwwstwstrxpp",
+            fetched: b"\xe8\xfa\xff\xff\xff",
+            shown: b"update 1 begin 1\nupdate 1 done 1\n0 401001 call 401000\n0 done\n",
+            seen: Acted::Hit {
+                cpu: 0,
+                site: F + 1,
+            },
+            finished: true,
+        },
+    )
+}
+
+#[test]
+fn a_traced_call_by_the_handler_is_a_hit(rt: HostRuntime) -> Result<(), Fail> {
+    runs(
+        &rt,
+        &Run {
+            small: &TRACE,
+            script: b"cpu f\ntrace f\nrun 3",
+            events: b"bwchppi",
+            fetched: b"",
+            shown: b"update 1 begin 1\n0 401001 call 401000\n0 done\n",
+            seen: Acted::Hit {
+                cpu: 0,
+                site: F + 1,
+            },
+            finished: false,
+        },
+    )
+}
