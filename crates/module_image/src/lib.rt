@@ -38,7 +38,7 @@ pub use early::wanted_form;
 use entry::{Entry, EntryKind};
 pub use image::Image;
 pub use key::{Key, KeyClass};
-pub use lines::site_line;
+pub use lines::{code_of, site_line};
 pub use refused::Refused;
 pub use site::{Site, SiteKind};
 use text::{Code, Text};

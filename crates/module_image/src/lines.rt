@@ -1,6 +1,8 @@
 //! The line of a site.
 ghost use Rattle.std.specs.Prelude.{◌≡◌, ◌≤◌, codes, if◌then◌else◌, [], length};
 ghost use Rattle.module_image.specs.SiteLine.{kind_name, site_line};
+ghost use Rattle.module_image.specs.Sites.{code_at};
+ghost use Rattle.module_image.specs.Text.{IsInside};
 
 use crate::{Site, SiteKind};
 use poke_base::{Line, put_bytes, put_hex, put_text};
@@ -21,6 +23,16 @@ pub fn site_line(site: &Site, code: &[u8]) -> Line
     put_text(&mut line, foreign_word(site.foreign));
     put_text(&mut line, b"\n");
     line
+}
+
+/// The bytes that a site holds in a text of its module, which begins at an address: at most five.
+pub fn code_of<'a>(base: u64, text: &'a [u8], site: &Site) -> &'a [u8]
+    requires { IsInside base (length text.now) site.now }
+    ensures code { result.now ≡ code_at base text.now site.now.at site.now.len }
+    ensures short { length result.now ≤ 5 }
+{
+    let from = (site.at - base) as usize;
+    &text[from..from + usize::from(site.len)]
 }
 
 /// The word for what a site is patched to.

@@ -18,7 +18,7 @@ use Rattle.script_text.specs.declared.script.ScriptStep.{ScriptStep}
 use Rattle.script_text.specs.declared.script.ScriptStep.TheVariants.{Update, Run, Drop}
 use Rattle.script_text.specs.Commands.{command_of, commands}
 use Rattle.script_text.specs.Script.{ScriptValue, all_updates}
-use Rattle.poke_tool.specs.Check.{site_lines}
+use Rattle.module_image.specs.SiteLine.{site_lines}
 use Rattle.poke_tool.specs.Wants.{IsWantsText, last_states, outcome_lines, script_outcomes}
 use Rattle.poke_tool.proofs.ItemLines.{take_more}
 

@@ -1,12 +1,10 @@
 -- What `check` says of a module file, and why one isn't accepted.
 use Rattle.std.specs.Prelude.{◌≤◌, ◌<◌, ⊤, ℕ, List, [], ◌∷◌, ◌++◌, length, codes}
-use Rattle.std.specs.List.{flat_map}
 use Rattle.poke_base.specs.Number.{decimal, hexadecimal}
 use Rattle.elf_module.specs.Elf.{Elf, sections_of, symbols_of}
 use Rattle.elf_module.specs.Refusals.{IsRefusal, Passes}
 use Rattle.module_image.specs.declared.site.Site.{Site}
-use Rattle.module_image.specs.Sites.{code_at}
-use Rattle.module_image.specs.SiteLine.{site_line}
+use Rattle.module_image.specs.SiteLine.{site_lines}
 use Rattle.module_image.specs.Module.{Module, IsModule}
 use Rattle.module_image.specs.Refusals.{IsRefusal as IsImageRefusal}
 use Rattle.poke_tool.specs.declared.fault.Fault.{Fault}
@@ -24,14 +22,6 @@ elf_of file = record { sections = sections_of file; symbols = symbols_of file }
 -- `text BASE SIZE`, the size in bytes, in decimal
 abbrev pub text_line : ℕ → List ℕ → List ℕ
 text_line base text = codes "text " ++ hexadecimal base ++ codes " " ++ decimal (length text) ++ 10 ∷ []
-
--- the line of a site of a text
-abbrev pub line_of : ℕ → List ℕ → Site → List ℕ
-line_of base text s = site_line s (code_at base text s.at s.len)
-
--- the lines of all sites
-abbrev pub site_lines : ℕ → List ℕ → List Site → List ℕ
-site_lines base text sites = flat_map (line_of base text) sites
 
 abbrev pub accepted_line : List ℕ
 accepted_line = codes "accepted" ++ 10 ∷ []

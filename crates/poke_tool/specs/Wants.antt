@@ -6,7 +6,7 @@ use Rattle.module_image.specs.Held.{first_states}
 use Rattle.module_image.specs.Module.{Module, States}
 use Rattle.script_text.specs.Commands.{commands}
 use Rattle.script_text.specs.Script.{ScriptValue}
-use Rattle.poke_tool.specs.Check.{site_lines}
+use Rattle.module_image.specs.SiteLine.{site_lines}
 
 -- a line for each update, by its number
 abbrev pub outcome_lines : ℕ → List Ending → List ℕ

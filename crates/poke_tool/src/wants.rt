@@ -2,7 +2,7 @@
 ghost use Rattle.std.specs.Prelude.{◌≡◌, ◌≤◌, ◌++◌, length, map};
 ghost use Rattle.key_state.specs.Outcome.{ending_of};
 ghost use Rattle.poke_base.specs.Host.{Prints};
-ghost use Rattle.poke_tool.specs.Check.{site_lines};
+ghost use Rattle.module_image.specs.SiteLine.{site_lines};
 ghost use Rattle.poke_tool.specs.Command.{Wants as WantsRow};
 ghost use Rattle.poke_tool.specs.Runs.{Does};
 ghost use Rattle.poke_tool.specs.Wants.{outcome_lines};

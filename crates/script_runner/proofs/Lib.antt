@@ -15,3 +15,4 @@ pub mod Looks
 pub mod Picked
 pub mod Ranges
 pub mod Chosen
+pub mod SiteLines

@@ -1,8 +1,11 @@
 -- The lines of a trace, spelt.
-use Rattle.std.specs.Prelude.{ℕ, List, [], ◌∷◌, ◌++◌, codes}
+use Rattle.std.specs.Prelude.{ℕ, List, [], ◌∷◌, ◌++◌, codes, slice_get, Option, Some, None}
 use Rattle.std.specs.List.{flat_map}
 use Rattle.cpu_core.specs.Lines.{out_line, pass_line, stop_line}
 use Rattle.key_state.specs.OutcomeLine.{outcome_line}
+use Rattle.module_image.specs.declared.site.Site.{Site}
+use Rattle.module_image.specs.Module.{Module}
+use Rattle.module_image.specs.SiteLine.{line_of}
 use Rattle.poke_base.specs.Number.{decimal}
 use Rattle.switching.specs.Said.{TraceLine, Opens, Ends, Drops, Passes, Outs, Stops}
 
@@ -24,3 +27,11 @@ line_text (Stops c life) = stop_line c life
 
 abbrev pub trace_text : List TraceLine → List ℕ
 trace_text lines = flat_map line_text lines
+
+-- the line of the site with a number, with what it holds in a text of the module
+abbrev pub line_of_found : ℕ → List ℕ → Option Site → List ℕ
+line_of_found base text None = []
+line_of_found base text (Some site) = line_of base text site
+
+abbrev pub numbered_line : Module → List ℕ → ℕ → List ℕ
+numbered_line m text number = line_of_found m.base text (slice_get m.sites number)

@@ -7,6 +7,7 @@ mod acts;
 mod choosing;
 mod events;
 mod looks;
+mod sites;
 
 use crate::progress::Progress;
 use crate::updater::Updater;

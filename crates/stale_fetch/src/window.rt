@@ -59,6 +59,13 @@ impl WindowText {
         Ok(WindowText { base, held, rows })
     }
 
+    /// The bytes that it holds now.
+    pub fn bytes(&self) -> &[u8]
+        ensures { result.now ≡ self.now.held }
+    {
+        &self.held
+    }
+
     /// What a processor may fetch at an address inside of the text.
     fn choice(&self, cpu: u8, at: u64) -> Choice
         requires known { cpu < length self.now.windows }

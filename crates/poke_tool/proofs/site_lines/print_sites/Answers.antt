@@ -4,8 +4,7 @@ use Rattle.poke_base.specs.declared.host.WriteFail.{WriteFail}
 use Rattle.poke_base.specs.Host.{Prints}
 use Rattle.module_image.specs.declared.site.Site.{Site}
 use Rattle.module_image.specs.declared.site.SiteKind.TheVariants.{Jump}
-use Rattle.module_image.specs.SiteLine.{site_line}
-use Rattle.poke_tool.specs.Check.{line_of, site_lines}
+use Rattle.module_image.specs.SiteLine.{line_of, site_line, site_lines}
 use Rattle.poke_tool.proofs.Plans.{as_failed}
 use Rattle.poke_tool.proofs.ItemLines.{item_failed, item_printed}
 use Rattle.poke_tool.proofs.site_lines.print_sites.Goals as goal

@@ -2,7 +2,7 @@ use Rattle.std.proofs.Common.{take, Ok}
 use Rattle.std.specs.List.{flat_map}
 use Rattle.poke_base.specs.declared.host.WriteFail.{WriteFail}
 use Rattle.poke_base.specs.Host.{Prints}
-use Rattle.poke_tool.specs.Check.{line_of}
+use Rattle.module_image.specs.SiteLine.{line_of}
 use Rattle.poke_tool.proofs.site_lines.print_sites.Given as goal
 
 abbrev pub invariant-loop-site : goal.invariant-loop-site

@@ -4,7 +4,7 @@ use Rattle.poke_base.specs.Host.{Prints}
 use Rattle.poke_base.proofs.Outsides.{Prints-more}
 use Rattle.key_state.specs.declared.outcome.Outcome.{Outcome}
 use Rattle.key_state.specs.Outcome.{ending_of}
-use Rattle.poke_tool.specs.Check.{site_lines}
+use Rattle.module_image.specs.SiteLine.{site_lines}
 use Rattle.poke_tool.specs.Wants.{outcome_lines}
 use Rattle.poke_tool.proofs.wants.print_run.Goals as goal
 

@@ -1,7 +1,8 @@
 use Rattle.std.proofs.Common.{◌++◌, Err, List, Ok, inl, inr, map, refl, ℕ}
 use Rattle.key_state.specs.Outcome.{ending_of}
 use Rattle.poke_tool.specs.declared.fault.Fault.TheVariants.{Memory, Write}
-use Rattle.poke_tool.specs.Check.{Accepts, RefusesAsModule, site_lines}
+use Rattle.module_image.specs.SiteLine.{site_lines}
+use Rattle.poke_tool.specs.Check.{Accepts, RefusesAsModule}
 use Rattle.poke_tool.specs.Command.{Wants}
 use Rattle.poke_tool.specs.Saying.{FileSays, ScriptSays, WantsSays, told_before}
 use Rattle.poke_tool.specs.Script.{AcceptsScript, RefusesAsScript}
