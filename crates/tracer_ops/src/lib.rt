@@ -1,0 +1,12 @@
+//! Tracers: what a caller hands in to be told of calls at traced sites.
+#![tactic(auto)]
+
+mod count;
+mod last_sites;
+mod list;
+mod tracer;
+
+pub use count::Count;
+pub use last_sites::LastSites;
+pub use list::{NoSuch, drop_at, feed};
+pub use tracer::{Tracer, TracerRule};
