@@ -1,0 +1,6 @@
+pub mod Puts
+pub mod Trace
+pub mod Shown
+pub mod Running
+pub mod Replaying
+pub mod Laws

@@ -1,0 +1,65 @@
+//! A run by a seed, recorded in a journal.
+ghost use Rattle.std.specs.Prelude.{◌≡◌, IsSome};
+ghost use Rattle.recorded_run.specs.Running.{RunDoes};
+ghost use Rattle.script_runner.specs.World.{StandsFor};
+ghost use Rattle.switching.specs.State.{first};
+
+use crate::ending::print_end;
+use crate::fault::RunFault;
+use crate::show::{Dropped, keep_dropped, show};
+use poke_base::{Host, Line, WriteFail};
+use run_journal::{Event, HEADER, line_of};
+use script_runner::{Words, World};
+
+/// No run has more events.
+const MOST_EVENTS: u32 = 8_106_496;
+
+/// Runs a module and a script from the first event on by words that choose, and records it: first the journal's header is
+/// appended to the file that is being made. Then of each event its line is appended, it is done, and what it shows is printed as
+/// one piece, if it shows anything. At the end of the script a line for each site is printed, with what it then holds, and a
+/// line for each drop.
+///
+/// # Errors
+/// `Write`: an append or a print failed; nothing further was done. It is never `Line`.
+pub fn run<H: Host>(
+    world: &mut World,
+    words: &mut Words,
+    host: &mut H,
+) -> Result<(), RunFault>
+    requires making { IsSome (H.outside host.old).making }
+    requires first { StandsFor world.old (first world.old.image world.old.script) }
+    requires idle { world.old.idle ≡ 0 }
+    ensures { RunDoes world.old.image world.old.script words.old (H.outside host.old) (H.outside host.new) result }
+{
+    host.append(HEADER)?;
+    let mut dropped = Dropped::new();
+    run_events(world, words, &mut dropped, host)?;
+    print_end(world, &dropped, host)?;
+    Ok(())
+}
+
+/// Does the chosen events to the end of the script.
+fn run_events<H: Host>(
+    world: &mut World,
+    words: &mut Words,
+    dropped: &mut Dropped,
+    host: &mut H,
+) -> Result<(), WriteFail> {
+    for _ in 0..=MOST_EVENTS {
+        let Some(event) = world.choose(words) else {
+            return Ok(());
+        };
+        append_line(&event, host)?;
+        if let Some(acted) = show(world, &event, host)? {
+            keep_dropped(&acted, dropped);
+        }
+    }
+    Ok(())
+}
+
+/// Appends the line of an event to the journal.
+fn append_line<H: Host>(event: &Event, host: &mut H) -> Result<(), WriteFail> {
+    let mut line = Line::new();
+    line_of(event, &mut line);
+    host.append(&line)
+}
