@@ -1,1 +1,6 @@
 pub mod Puts
+pub mod ItemLines
+pub mod Readings
+pub mod Events
+pub mod Underway
+pub mod Replays

@@ -3,4 +3,5 @@ pub mod Trace
 pub mod Shown
 pub mod Running
 pub mod Replaying
+pub mod Underway
 pub mod Laws
