@@ -1,5 +1,6 @@
 -- A replay, event by event.
-use Rattle.std.proofs.Common.{◌≡◌, ◌∙◌, ◌+◌, ◌≤◌, ℕ, List, [], ◌∷◌, ◌++◌, length, inl, inr, Ok, Err, refl, sym, ap, subst, arith}
+use Rattle.std.proofs.Common.{◌≡◌, ◌∙◌, ◌+◌, ◌≤◌, ℕ, List, [], ◌∷◌, ◌++◌, length, inl, inr, Option, Some, IfSome, Result, IsErrAnd, Ok, Err, refl, sym, ap, subst, arith}
+use Rattle.std.proofs.lemmas.Result.{err_from_is_err_and}
 use Rattle.module_image.specs.Module.{Module}
 use Rattle.poke_base.specs.declared.host.WriteFail.{WriteFail}
 use Rattle.poke_base.specs.Host.{Outside, Prints}
@@ -18,11 +19,12 @@ use Rattle.switching.specs.May.{May}
 use Rattle.switching.specs.Next.{next}
 use Rattle.switching.specs.Said.{said}
 use Rattle.switching.specs.State.{State, first}
+use Rattle.recorded_run.specs.declared.fault.RunFault.{RunFault}
 use Rattle.recorded_run.specs.Puts.{Puts}
-use Rattle.recorded_run.specs.Replaying.{IsReplayed, ReadsLegal, ReplaysPart, ReplaysTo, ReplaysWhole}
-use Rattle.recorded_run.specs.Shown.{dropped_by}
+use Rattle.recorded_run.specs.Replaying.{IsReplayed, ReadsLegal, ReplayDoes, ReplaysPart, ReplaysTo, ReplaysWhole}
+use Rattle.recorded_run.specs.Shown.{Shows, dropped_by}
 use Rattle.recorded_run.specs.Trace.{dropped_line, end_text, event_text, events_text, places, trace_end}
-use Rattle.recorded_run.specs.Underway.{HasDone, HasReplayed, IsUnderway}
+use Rattle.recorded_run.specs.Underway.{HasDone, HasReplayed, IsUnderway, ReplaysEvents}
 use Rattle.recorded_run.proofs.Drops.{acted_places, few_drops}
 use Rattle.recorded_run.proofs.Events.{events_text_push, places_push}
 use Rattle.recorded_run.proofs.Puts.{PrintsPart, prints_part, puts_more, puts_none, puts_printed}
@@ -166,18 +168,25 @@ end_now : (m : Module) (s : State) (events : List Event) (w : WorldSeen) (droppe
 end_now m s events w dropped h =
     ap (λ (n : Module). end_text n (after m s events) dropped) h.image ∙ ap (λ (ps : List ℕ). end_text m (after m s events) ps) h.dropped_are
 
-pub ending_whole : (m : Module) (s : State) (text : List ℕ) (w : WorldSeen) (dropped : List ℕ) (old middle new : Outside) → HasReplayed m s text w dropped old middle → ((t : State) → StandsFor w t → Prints {T = Unit {0}} {E = WriteFail} middle new (end_text w.image t dropped) (Ok tt)) → ReplaysWhole m s text old new
-ending_whole m s text w dropped old middle new h prints =
-    let is : Prints {T = Unit {0}} {E = WriteFail} middle new (trace_end m s h.events) (Ok tt) = subst (λ (t : List ℕ). Prints {T = Unit {0}} {E = WriteFail} middle new t (Ok tt)) (end_now m s h.events w dropped h.done) (prints (after m s h.events) h.done.stands) in
+-- the end was printed of the machine as it is
+end_printed : (m : Module) (s : State) (events : List Event) (w : WorldSeen) (dropped items : List ℕ) (old new : Outside) (result : Result (Unit {0}) WriteFail) → HasDone m s events w dropped → items ≡ dropped → ((t : State) → StandsFor w t → Prints old new (end_text w.image t items) result) → Prints old new (trace_end m s events) result
+end_printed m s events w dropped items old new result h same prints =
+    subst (λ (t : List ℕ). Prints old new t result)
+    (ap (λ (ps : List ℕ). end_text w.image (after m s events) ps) same ∙ end_now m s events w dropped h)
+    (prints (after m s events) h.stands)
+
+pub ending_whole : (m : Module) (s : State) (text : List ℕ) (w : WorldSeen) (dropped items : List ℕ) (old middle new : Outside) → HasReplayed m s text w dropped old middle → items ≡ dropped → ((t : State) → StandsFor w t → Prints {T = Unit {0}} {E = WriteFail} middle new (end_text w.image t items) (Ok tt)) → ReplaysWhole m s text old new
+ending_whole m s text w dropped items old middle new h same prints =
+    let is = end_printed m s h.events w dropped items middle new (Ok tt) h.done same prints in
     record {
       events = h.events;
       is = h.is;
       puts = puts_more old middle new [] (events_text m s h.events) [] (trace_end m s h.events) h.puts (puts_printed middle new (trace_end m s h.events) tt is);
     }
 
-pub ending_cut : (m : Module) (s : State) (text : List ℕ) (w : WorldSeen) (dropped : List ℕ) (old middle new : Outside) (why : WriteFail) → HasReplayed m s text w dropped old middle → ((t : State) → StandsFor w t → Prints {T = Unit {0}} {E = WriteFail} middle new (end_text w.image t dropped) (Err why)) → ReplaysPart m s text old new
-ending_cut m s text w dropped old middle new why h prints =
-    let is : Prints {T = Unit {0}} {E = WriteFail} middle new (trace_end m s h.events) (Err why) = subst (λ (t : List ℕ). Prints {T = Unit {0}} {E = WriteFail} middle new t (Err why)) (end_now m s h.events w dropped h.done) (prints (after m s h.events) h.done.stands) in
+pub ending_cut : (m : Module) (s : State) (text : List ℕ) (w : WorldSeen) (dropped items : List ℕ) (old middle new : Outside) (why : WriteFail) → HasReplayed m s text w dropped old middle → items ≡ dropped → ((t : State) → StandsFor w t → Prints {T = Unit {0}} {E = WriteFail} middle new (end_text w.image t items) (Err why)) → ReplaysPart m s text old new
+ending_cut m s text w dropped items old middle new why h same prints =
+    let is = end_printed m s h.events w dropped items middle new (Err why) h.done same prints in
     let part : PrintsPart middle new (trace_end m s h.events) = prints_part middle new (trace_end m s h.events) why is in
     let earlier = h.puts.write_faults in
     let rose = part.failed in
@@ -192,3 +201,26 @@ ending_cut m s text w dropped old middle new why h prints =
       puts = puts_more old middle new [] (events_text m s h.events) [] part.done h.puts part.puts;
       failed = Rose-later old.write_faults middle.write_faults new.write_faults earlier rose;
     }
+
+-- ---- what calls answer
+
+-- what was found there is what was answered
+pub found_it : {A : Type 0} (P : A → Type 0) (found : Option A) (x : A) → found ≡ Some x → IfSome found P → P x
+found_it {A = A} P found x is h = subst (λ (o : Option A). IfSome o P) is h
+
+-- an event that was answered to have done something was done and shown
+pub acted_it : (w v : WorldSeen) (e : Event) (old new : Outside) (found : Option Acted) (did : Acted) → found ≡ Some did → Shows w e v old new (Ok found) → Shows w e v old new (Ok (Some did))
+acted_it w v e old new found did is h = subst (λ (o : Option Acted). Shows w e v old new (Ok o)) is h
+
+-- what was done before a fault is answered with it
+pub events_fault : (m : Module) (s : State) (text : List ℕ) (now : WorldSeen) (dropped : List ℕ) (old new : Outside) (fault : RunFault) (result : Result (Unit {0}) RunFault) → IsErrAnd result (λ why. why ≡ fault) → ReplaysEvents m s text now dropped old new (Err fault) → ReplaysEvents m s text now dropped old new result
+events_fault m s text now dropped old new fault result is h =
+    let p = err_from_is_err_and result is in
+    subst (λ (r : Result (Unit {0}) RunFault). ReplaysEvents m s text now dropped old new r) (sym p.1)
+    (subst (λ (why : RunFault). ReplaysEvents m s text now dropped old new (Err why)) (sym p.2) h)
+
+pub replay_fault : (m : Module) (s : State) (text : List ℕ) (old new : Outside) (fault : RunFault) (result : Result (Unit {0}) RunFault) → IsErrAnd result (λ why. why ≡ fault) → ReplayDoes m s text old new (Err fault) → ReplayDoes m s text old new result
+replay_fault m s text old new fault result is h =
+    let p = err_from_is_err_and result is in
+    subst (λ (r : Result (Unit {0}) RunFault). ReplayDoes m s text old new r) (sym p.1)
+    (subst (λ (why : RunFault). ReplayDoes m s text old new (Err why)) (sym p.2) h)
