@@ -1,1 +1,5 @@
+pub mod Puts
 pub mod Drops
+pub mod HasLine
+pub mod OneEvent
+pub mod Leads
