@@ -1,5 +1,6 @@
 -- Every event that may come in a state that a legal prefix leads to has a line in a journal.
-use Rattle.std.proofs.Common.{◌≡◌, ◌∙◌, ◌+◌, ◌<◌, ◌≤◌, ℕ, Bool, true, false, List, [], ◌∷◌, length, All, Option, Some, None, slice_get, refl, sym, ap, subst, arith, length-map}
+use Rattle.std.proofs.Common.{◌≡◌, ◌∙◌, ◌<◌, ◌≤◌, ℕ, Bool, true, false, List, [], ◌∷◌, length, All, Option, Some, None, slice_get, refl, sym, ap, subst, arith}
+use Rattle.std.proofs.lemmas.List.{length-map}
 use Rattle.std.specs.Option.{ForSome}
 use Rattle.std.proofs.lemmas.List.Elements.{All-cons}
 use Rattle.std.proofs.lemmas.Option.{none-some, same_Some, slice_get_within}
@@ -74,7 +75,7 @@ cpu_few m s c p r here =
 
 -- ---- events
 
-nothing : {T : Type 0} (P : T → Type 0) → ForSome {T} None P
+nothing : {T : Type 0} (P : T → Type 0) → ForSome {T = T} None P
 nothing P x is = absurd (none-some x is)
 
 only : {T : Type 0} (P : T → Type 0) (value : T) → P value → ForSome (Some value) P

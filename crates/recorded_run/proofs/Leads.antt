@@ -1,5 +1,5 @@
 -- The events that the choice rule takes one after the other, and where they lead.
-use Rattle.std.proofs.Common.{◌≡◌, ◌∙◌, ◌+◌, ◌≤◌, ℕ, List, [], ◌∷◌, ◌++◌, length, refl, sym, ap, subst, arith}
+use Rattle.std.proofs.Common.{◌≡◌, ◌∙◌, ◌≤◌, ℕ, List, [], ◌∷◌, ◌++◌, length, refl, sym, ap, subst}
 use Rattle.module_image.specs.Module.{IsAccepted, Module}
 use Rattle.run_journal.specs.declared.event.Event.{Event}
 use Rattle.script_text.specs.Laws.{IsScriptOf}
@@ -9,8 +9,7 @@ use Rattle.switching.specs.ChoiceLaws.{IsChosenSoFar}
 use Rattle.switching.specs.Journal.{IsFinished, IsLegalSoFar, after}
 use Rattle.switching.specs.Laws.{IsReached}
 use Rattle.switching.specs.May.{May}
-use Rattle.switching.specs.Next.{next}
-use Rattle.switching.specs.State.{State, first}
+use Rattle.switching.specs.State.{first}
 use Rattle.switching.proofs.ChoiceEnd.{chosen_prefixes_end}
 use Rattle.switching.proofs.ChoiceLegal.{taken_may}
 use Rattle.switching.proofs.ChoiceMarks.{Fit, marks_first, marks_next}
@@ -76,12 +75,13 @@ leads_within m ch last (e ∷ done) [] fit (c, w, first, leads) chosen =
 leads_within m ch last (e ∷ done) (f ∷ events) fit (c, w, first, leads) (c2, w2, first2, more) =
     let one = taken_one m ch e f c c2 w w2 first first2 in
     let too : IsChosen m (chooser_after m ch c w e) events =
-        subst (λ (p : Choice × ℕ). IsChosen m (chooser_after m ch p.0 p.1 e) events) one.choices
-        (subst (λ (x : Event). IsChosen m (chooser_after m ch c2 w2 x) events) one.events more) in
+        subst (λ (x : Choice). IsChosen m (chooser_after m ch x w e) events) one.choice_is
+        (subst (λ (n : ℕ). IsChosen m (chooser_after m ch c2 n e) events) one.words_are
+        (subst (λ (x : Event). IsChosen m (chooser_after m ch c2 w2 x) events) one.event_is more)) in
     let rest = leads_within m (chooser_after m ch c w e) last done events (marks_next m ch.state e fit) leads too in
     record {
       rest = rest.rest;
-      whole = ap (λ (l : List Event). e ∷ l) rest.whole ∙ ap (λ (x : Event). x ∷ events) (sym one.events);
+      whole = ap (λ (l : List Event). e ∷ l) rest.whole ∙ ap (λ (x : Event). x ∷ events) (sym one.event_is);
       chosen = rest.chosen;
     }
 
@@ -122,7 +122,7 @@ goes_on_by m script seed last done events (f ∷ later) e choice words fit takes
       events = events;
       chosen = chosen;
       later = later;
-      whole = ap (λ (x : Event). done ++ x ∷ later) (sym (taken_one m last e f choice c words w takes first).events) ∙ whole;
+      whole = ap (λ (x : Event). done ++ x ∷ later) (sym (taken_one m last e f choice c words w takes first).event_is) ∙ whole;
     }
 
 pub goes_on : (m : Module) (script : ScriptValue) (seed : ℕ) (last : Chooser) (done : List Event) (e : Event) (choice : Choice) (words : ℕ) → IsAccepted m → IsScriptOf m script → Leads m (first_chooser m script seed) done last → Takes m last e choice words → GoesOn m script seed done e

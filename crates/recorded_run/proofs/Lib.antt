@@ -3,3 +3,4 @@ pub mod Drops
 pub mod HasLine
 pub mod OneEvent
 pub mod Leads
+pub mod Runs

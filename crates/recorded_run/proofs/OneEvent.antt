@@ -1,5 +1,5 @@
 -- The rule takes one event.
-use Rattle.std.proofs.Common.{◌≡◌, ◌⊎◌, inl, inr, ℕ, suc, ◌+◌, List, [], ◌∷◌, ◌++◌, slice_get, Option, Some, refl, ap, sym, subst, ◌∙◌, append-nil}
+use Rattle.std.proofs.Common.{◌≡◌, ◌⊎◌, inl, inr, ℕ, suc, ◌+◌, List, [], ◌∷◌, ◌++◌, slice_get, Some, refl, ap, sym, subst, ◌∙◌, append-nil}
 use Rattle.std.proofs.lemmas.Option.{same_Some}
 use Rattle.rand_xoshiro.specs.SplitMix64.{mix_u64}
 use Rattle.insn_forms.specs.History.{since}
@@ -60,15 +60,17 @@ event_one m s (Fetches c) words e other (bytes, is, picked) (others, also, too) 
     ∙ ap (λ (l : List ℕ). At c (record { items = l })) (picked_one m s c (mix_u64 words).0 bytes others picked too)
     ∙ sym also
 
--- what is taken, as one pair, and the event
+-- what is chosen, the words after it, and the event
 pub record AreOne (e other : Event) (choice others : Choice) (words rest : ℕ) : Type 0 where
-  pub choices : (others, rest) ≡ (choice, words)
-  pub events : other ≡ e
+  pub choice_is : others ≡ choice
+  pub words_are : rest ≡ words
+  pub event_is : other ≡ e
 
 pub taken_one : (m : Module) (ch : Chooser) (e other : Event) (choice others : Choice) (words rest : ℕ) → Takes m ch e choice words → Takes m ch other others rest → AreOne e other choice others words rest
 taken_one m ch e other choice others words rest one also =
     let pair : (others, rest) ≡ (choice, words) = same_Some _ _ (sym also.is ∙ one.is) in
     record {
-      choices = pair;
-      events = event_one m ch.state choice words other e (subst (λ (p : Choice × ℕ). IsEventOf m ch.state p.0 p.1 other) pair also.event) one.event;
+      choice_is = ap (λ (p : Choice × ℕ). p.0) pair;
+      words_are = ap (λ (p : Choice × ℕ). p.1) pair;
+      event_is = event_one m ch.state choice words other e (subst (λ (p : Choice × ℕ). IsEventOf m ch.state p.0 p.1 other) pair also.event) one.event;
     }
