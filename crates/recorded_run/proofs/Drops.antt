@@ -143,8 +143,8 @@ begun_drops s (Goes new (c ∷ changes)) = omega arith
 
 -- ---- an event drops what the script has no longer to drop after it
 
-none_more : (ls : List TraceLine) (now then : ℕ) → places ls ≡ [] → then ≤ now → length (places ls) + then ≤ now
-none_more ls now then none fewer = (let zero : length (places ls) ≡ 0 = ap length none in omega (arith, zero, fewer))
+none_more : (ls : List TraceLine) (now later : ℕ) → places ls ≡ [] → later ≤ now → length (places ls) + later ≤ now
+none_more ls now later none fewer = (let zero : length (places ls) ≡ 0 = ap length none in omega (arith, zero, fewer))
 
 drops_begin : (m : Module) (s : State) (steps : List ScriptStep) → s.steps ≡ steps → length (places (said_first (s.updates + 1) steps (found m s steps))) + all_drops (begun_by s (found m s steps)).steps ≤ all_drops s.steps
 drops_begin m s [] same = none_more [] _ _ refl (later_drops s.steps)
