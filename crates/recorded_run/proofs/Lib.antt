@@ -4,3 +4,8 @@ pub mod HasLine
 pub mod OneEvent
 pub mod Leads
 pub mod Runs
+pub mod ItemLines
+pub mod Readings
+pub mod Events
+pub mod Underway
+pub mod Replays

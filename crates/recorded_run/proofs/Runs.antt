@@ -31,7 +31,8 @@ use Rattle.recorded_run.specs.Running.{HeaderIsCut, IsCut, IsRun, RunsPart, Runs
 use Rattle.recorded_run.specs.Shown.{dropped_by}
 use Rattle.recorded_run.specs.Stepping.{CanDo, CutsEvent, DoesEvent, EventsCut, EventsDone}
 use Rattle.recorded_run.specs.Trace.{end_text, event_text, events_text, places, trace, trace_end}
-use Rattle.recorded_run.proofs.Drops.{acted_places, few_drops, places-append}
+use Rattle.recorded_run.proofs.Drops.{acted_places, few_drops}
+use Rattle.recorded_run.proofs.Events.{events_text_push, places_push}
 use Rattle.recorded_run.proofs.HasLine.{has_line}
 use Rattle.recorded_run.proofs.Leads.{Leads, goes_on, leads_chosen, leads_few, leads_may, leads_more, leads_reached, leads_state}
 use Rattle.recorded_run.proofs.Puts.{appends_part, prints_part, puts_appended, puts_more, puts_none, puts_printed}
@@ -91,24 +92,9 @@ drop_room w v e text did kept can acts =
     let same : length (dropped_by did) ≡ length (places (said w.image can.state e)) = ap length (acted_places w.image (said w.image can.state e) did (acts.does.acted_is can.state can.stands)) in
     omega (arith, room, same)
 
--- ---- what events show and their lines, with one more
+-- ---- one event more
 
-lines_push : (m : Module) (s : State) (events : List Event) (e : Event) → lines m s (events ++ e ∷ []) ≡ lines m s events ++ said m (after m s events) e
-lines_push m s [] e = append-nil (said m s e)
-lines_push m s (f ∷ events) e =
-    ap (λ (ls : List TraceLine). said m s f ++ ls) (lines_push m (next m s f) events e)
-    ∙ sym (append_assoc (said m s f) (lines m (next m s f) events) (said m (after m (next m s f) events) e))
-
-pub places_push : (m : Module) (s : State) (events : List Event) (e : Event) → places (lines m s events) ++ places (said m (after m s events) e) ≡ places (lines m s (events ++ e ∷ []))
-places_push m s events e =
-    sym (places-append (lines m s events) (said m (after m s events) e))
-    ∙ ap (λ (ls : List TraceLine). places ls) (sym (lines_push m s events e))
-
-pub text_push : (m : Module) (s : State) (events : List Event) (e : Event) → events_text m s events ++ event_text m (after m s events) e ≡ events_text m s (events ++ e ∷ [])
-text_push m s events e =
-    sym (flat_map-append line_text (lines m s events) (said m (after m s events) e))
-    ∙ ap (λ (ls : List TraceLine). trace_text ls) (sym (lines_push m s events e))
-
+-- the lines of events in the journal, with one more
 pub filed_push : (events : List Event) (e : Event) → flat_map event_line events ++ event_line e ≡ flat_map event_line (events ++ e ∷ [])
 filed_push events e = flat_map_more event_line [] events e
 
@@ -208,10 +194,10 @@ run_more m script seed old v words dropped middle turns h e rest u keeps new tak
           does.kept_are h.last.state h.chooses.state
           ∙ ap (λ (ps : List ℕ). ps ++ places (said v.image h.last.state e)) h.dropped_are
           ∙ ap (λ (ls : List TraceLine). places (lines m (first m script) h.done) ++ places ls) shown
-          ∙ places_push m (first m script) h.done e;
+          ∙ sym (places_push m (first m script) h.done e);
       puts =
           subst (λ (filed : List ℕ). Puts old new filed (events_text m (first m script) (h.done ++ e ∷ []))) (filed_push h.done e)
-          (subst (λ (text : List ℕ). Puts old new (flat_map event_line h.done ++ event_line e) text) (ap (λ (ls : List TraceLine). events_text m (first m script) h.done ++ trace_text ls) shown ∙ text_push m (first m script) h.done e) both);
+          (subst (λ (text : List ℕ). Puts old new (flat_map event_line h.done ++ event_line e) text) (ap (λ (ls : List TraceLine). events_text m (first m script) h.done ++ trace_text ls) shown ∙ sym (events_text_push m (first m script) h.done e)) both);
     }
 
 -- nothing is left to choose

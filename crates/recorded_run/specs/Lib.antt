@@ -4,4 +4,5 @@ pub mod Shown
 pub mod Stepping
 pub mod Running
 pub mod Replaying
+pub mod Underway
 pub mod Laws
