@@ -1,5 +1,5 @@
 -- How many tracers are dropped: no more than the script has drops.
-use Rattle.std.proofs.Common.{◌≡◌, ◌∙◌, ◌+◌, ◌≤◌, ◌==◌, ℕ, Bool, true, false, if◌then◌else◌, List, [], ◌∷◌, ◌++◌, length, drop, Option, Some, None, slice_get, refl, sym, ap, arith, length-append, append-nil}
+use Rattle.std.proofs.Common.{◌≡◌, ◌∙◌, ◌+◌, ◌≤◌, ◌==◌, ℕ, Bool, true, false, if◌then◌else◌, List, [], ◌∷◌, ◌++◌, length, drop, Option, Some, None, slice_get, refl, sym, ap, arith, length-append}
 use Rattle.std.specs.List.{flat_map}
 use Rattle.std.proofs.lemmas.Grind.{flat_map-append}
 use Rattle.cpu_core.specs.declared.turn.Stepped.{Stepped}
@@ -18,15 +18,14 @@ use Rattle.script_text.specs.declared.script.ScriptStep.{ScriptStep}
 use Rattle.script_text.specs.declared.script.ScriptStep.TheVariants as step
 use Rattle.script_text.specs.Laws.{IsScriptOf}
 use Rattle.script_text.specs.Script.{ScriptValue, all_drops, drop_count}
-use Rattle.x64_subset.specs.declared.insn.Insn.{Insn}
 use Rattle.x64_subset.specs.declared.proc.Life.{Life}
 use Rattle.x64_subset.specs.declared.proc.Mark.{Mark}
 use Rattle.x64_subset.specs.declared.proc.Mark.TheVariants.{None as NoMark, Out, Ended}
-use Rattle.switching.specs.Beginning.{Beginning, Goes, Refuses}
+use Rattle.switching.specs.Beginning.{Beginning, Goes, Refuses, beginning, clash_of_bytes}
 use Rattle.switching.specs.Journal.{after, lines}
-use Rattle.switching.specs.Next.{at_cpu, begun, begun_by, found, next, ran_handler, ran_plain, ran_site, took, used, used_at, used_of, wrote}
+use Rattle.switching.specs.Next.{at_cpu, begun, begun_by, found, next, ran_handler, ran_plain, ran_site, took, used_at, used_of, wrote}
 use Rattle.switching.specs.Said.{TraceLine, Opens, Ends, Drops, Passes, Outs, Stops, of_cpu, said, said_begun, said_first, said_handled, said_handler, said_mark, said_plain, said_return, said_site, said_stepped}
-use Rattle.switching.specs.State.{Cpu, State, first}
+use Rattle.switching.specs.State.{Cpu, State, first, held_after}
 use Rattle.switching.proofs.ChoiceBound.{sum_more}
 use Rattle.script_runner.specs.declared.acted.Acted.{Acted}
 use Rattle.script_runner.specs.declared.acted.Acted.TheVariants as acted
@@ -148,7 +147,9 @@ none_more ls now later none fewer = (let zero : length (places ls) ≡ 0 = ap le
 
 drops_begin : (m : Module) (s : State) (steps : List ScriptStep) → s.steps ≡ steps → length (places (said_first (s.updates + 1) steps (found m s steps))) + all_drops (begun_by s (found m s steps)).steps ≤ all_drops s.steps
 drops_begin m s [] same = none_more [] _ _ refl (later_drops s.steps)
-drops_begin m s (step.Update command ∷ rest) same = none_more _ _ _ (no_begun (s.updates + 1) _) (begun_drops s _)
+drops_begin m s (step.Update command ∷ rest) same =
+    let found_is = beginning m (clash_of_bytes (held_after m s.writes)) s.states command in
+    none_more (said_begun (s.updates + 1) found_is) (all_drops s.steps) (all_drops (begun s (drop 1 s.steps) found_is).steps) (no_begun (s.updates + 1) found_is) (begun_drops s found_is)
 drops_begin m s (step.Run turns ∷ rest) same = none_more [] _ _ refl (later_drops s.steps)
 drops_begin m s (step.Drop place ∷ rest) same =
     let one : length (places (Drops place ∷ [])) ≡ 1 = refl in
@@ -161,18 +162,19 @@ drops_next m s Begin = drops_begin m s s.steps refl
 drops_next m s Write = none_more [] _ _ refl (wrote_drops s (due_of s.opened))
 drops_next m s Request = none_more [] _ _ refl (omega arith)
 drops_next m s (Take c) = none_more [] _ _ refl (cpu_drops (slice_get s.cpus c) s (took s c) (λ p. omega arith))
-drops_next m s Return = none_more _ _ _ (no_return s.updates s.opened) (later_drops s.steps)
+drops_next m s Return =
+    none_more (said_return s.updates s.opened) (all_drops s.steps) (all_drops (drop 1 s.steps)) (no_return s.updates s.opened) (later_drops s.steps)
 drops_next m s (Plain c) =
-    none_more _ _ _
-    (no_cpu (slice_get s.cpus c) (said_plain m c) (λ p. no_stepped c _ _))
+    none_more (of_cpu (slice_get s.cpus c) (said_plain m c)) (all_drops s.steps) (all_drops (at_cpu (slice_get s.cpus c) s (ran_plain m s c)).steps)
+    (no_cpu (slice_get s.cpus c) (said_plain m c) (λ p. no_stepped c (plain_turn m p).proc.life (plain_answer (plain_here m p) p.proc)))
     (cpu_drops (slice_get s.cpus c) s (ran_plain m s c) (λ p. used_drops s s.opened s.steps refl))
 drops_next m s (At c bytes) =
-    none_more _ _ _
-    (no_cpu (slice_get s.cpus c) (said_site c bytes.items) (λ p. no_stepped c _ _))
+    none_more (of_cpu (slice_get s.cpus c) (said_site c bytes.items)) (all_drops s.steps) (all_drops (at_cpu (slice_get s.cpus c) s (ran_site s c bytes.items)).steps)
+    (no_cpu (slice_get s.cpus c) (said_site c bytes.items) (λ p. no_stepped c (at_turn bytes.items p).proc.life (at_answer bytes.items p)))
     (cpu_drops (slice_get s.cpus c) s (ran_site s c bytes.items) (λ p. used_drops s s.opened s.steps refl))
 drops_next m s (Handle c) =
-    none_more _ _ _
-    (no_cpu (slice_get s.cpus c) (said_handler s.opened c) (λ p. no_handled c _ _))
+    none_more (of_cpu (slice_get s.cpus c) (said_handler s.opened c)) (all_drops s.steps) (all_drops (at_cpu (slice_get s.cpus c) s (ran_handler s c)).steps)
+    (no_cpu (slice_get s.cpus c) (said_handler s.opened c) (λ p. no_handled c (handled_turn s.opened p).proc.life (answer s.opened p.proc)))
     (cpu_drops (slice_get s.cpus c) s (ran_handler s c) (λ p. used_drops s s.opened s.steps refl))
 drops_next m s (Tick c) = none_more [] _ _ refl (used_drops s s.opened s.steps refl)
 

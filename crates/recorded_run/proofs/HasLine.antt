@@ -86,23 +86,23 @@ IsFew cpu = cpu ≤ 15
 
 
 -- the line of an event that may come
-pub has_line : (m : Module) (s : State) (e : Event) → IsReached m s → May m s e → HasLine e
-has_line m s Begin r may = record { cpu = nothing IsFew; bytes = nothing IsFetched }
-has_line m s Write r may = record { cpu = nothing IsFew; bytes = nothing IsFetched }
-has_line m s Request r may = record { cpu = nothing IsFew; bytes = nothing IsFetched }
-has_line m s (Take c) r may =
+pub may_has_line : (m : Module) (s : State) (e : Event) → IsReached m s → May m s e → HasLine e
+may_has_line m s Begin r may = record { cpu = nothing IsFew; bytes = nothing IsFetched }
+may_has_line m s Write r may = record { cpu = nothing IsFew; bytes = nothing IsFetched }
+may_has_line m s Request r may = record { cpu = nothing IsFew; bytes = nothing IsFetched }
+may_has_line m s (Take c) r may =
     record { cpu = only IsFew c (cpu_few m s c may.cpu r may.here); bytes = nothing IsFetched }
-has_line m s Return r may = record { cpu = nothing IsFew; bytes = nothing IsFetched }
-has_line m s (Plain c) r may =
+may_has_line m s Return r may = record { cpu = nothing IsFew; bytes = nothing IsFetched }
+may_has_line m s (Plain c) r may =
     record { cpu = only IsFew c (cpu_few m s c may.cpu r may.here); bytes = nothing IsFetched }
-has_line m s (At c bytes) r may =
+may_has_line m s (At c bytes) r may =
     record {
       cpu = only IsFew c (cpu_few m s c may.turn.cpu r may.turn.here);
       bytes = only IsFetched bytes.items (may_fetched m s c bytes r may);
     }
-has_line m s (Handle c) r may =
+may_has_line m s (Handle c) r may =
     record { cpu = only IsFew c (cpu_few m s c may.cpu r may.here); bytes = nothing IsFetched }
-has_line m s (Tick c) r may =
+may_has_line m s (Tick c) r may =
     record { cpu = only IsFew c (cpu_few m s c may.cpu r may.here); bytes = nothing IsFetched }
 
 -- ---- no event may come once the script is finished

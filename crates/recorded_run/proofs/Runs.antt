@@ -1,12 +1,11 @@
 -- A run, event by event: the loop over the events that are chosen, and what comes before and after it.
-use Rattle.std.proofs.Common.{◌≡◌, ◌≢◌, ◌∙◌, ◌⊎◌, inl, inr, ◌+◌, ◌<◌, ◌≤◌, ℕ, min, List, [], ◌∷◌, ◌++◌, length, Result, Ok, Err, IsSome, refl, sym, ap, subst, arith, append-nil, append_assoc, length-append}
+use Rattle.std.proofs.Common.{◌≡◌, ◌∙◌, inl, inr, ◌+◌, ◌≤◌, ℕ, min, List, [], ◌∷◌, ◌++◌, length, Ok, Err, IsSome, refl, sym, ap, subst, arith, append-nil, append_assoc, length-append}
 use Rattle.std.specs.List.{flat_map}
-use Rattle.std.proofs.lemmas.Grind.{flat_map-append}
 use Rattle.std.proofs.Math.Seq.{take-length}
 use Rattle.std.proofs.lemmas.List.{flat_map_more}
 use Rattle.module_image.specs.Module.{IsAccepted, Module}
 use Rattle.poke_base.specs.declared.host.WriteFail.{WriteFail}
-use Rattle.poke_base.specs.Host.{Appends, Outside, Prints, Rose}
+use Rattle.poke_base.specs.Host.{Appends, Outside, Prints}
 use Rattle.poke_base.specs.Text.{IsPrefix}
 use Rattle.poke_base.proofs.Outsides.{Rose-later}
 use Rattle.run_journal.specs.declared.event.Event.{Event}
@@ -14,8 +13,8 @@ use Rattle.run_journal.specs.declared.event.Event.TheVariants.{Begin, Write, Req
 use Rattle.run_journal.specs.Spelling.{event_line, header, journal}
 use Rattle.script_text.specs.Laws.{IsScriptOf}
 use Rattle.script_text.specs.Script.{ScriptValue}
-use Rattle.switching.specs.Choice.{Choice, Chooser, IsChosen, Takes, chooser_after, first_chooser, idle_after, most_idle}
-use Rattle.switching.specs.Journal.{IsLegal, after, lines}
+use Rattle.switching.specs.Choice.{Chooser, IsChosen, chooser_after, first_chooser, idle_after, most_idle}
+use Rattle.switching.specs.Journal.{after, lines}
 use Rattle.switching.specs.May.{May}
 use Rattle.switching.specs.Next.{next}
 use Rattle.switching.specs.Said.{TraceLine, said}
@@ -24,16 +23,16 @@ use Rattle.switching.proofs.ChoiceLegal.{chosen_are_legal}
 use Rattle.switching.proofs.ChoiceRuns.{runs_are_there}
 use Rattle.script_runner.specs.declared.acted.Acted.{Acted}
 use Rattle.script_runner.specs.Choosing.{Chooses, IsOver, TakesNext}
-use Rattle.script_runner.specs.TraceText.{line_text, trace_text}
+use Rattle.script_runner.specs.TraceText.{trace_text}
 use Rattle.script_runner.specs.World.{Acts, IsWorld, StandsFor, WorldSeen}
 use Rattle.recorded_run.specs.Puts.{Puts}
-use Rattle.recorded_run.specs.Running.{HeaderIsCut, IsCut, IsRun, RunsPart, RunsWhole}
+use Rattle.recorded_run.specs.Running.{IsRun, RunsPart, RunsWhole}
 use Rattle.recorded_run.specs.Shown.{dropped_by}
 use Rattle.recorded_run.specs.Stepping.{CanDo, CutsEvent, DoesEvent, EventsCut, EventsDone}
 use Rattle.recorded_run.specs.Trace.{end_text, event_text, events_text, places, trace, trace_end}
 use Rattle.recorded_run.proofs.Drops.{acted_places, few_drops}
 use Rattle.recorded_run.proofs.Events.{events_text_push, places_push}
-use Rattle.recorded_run.proofs.HasLine.{has_line}
+use Rattle.recorded_run.proofs.HasLine.{may_has_line}
 use Rattle.recorded_run.proofs.Leads.{Leads, goes_on, leads_chosen, leads_few, leads_may, leads_more, leads_reached, leads_state}
 use Rattle.recorded_run.proofs.Puts.{appends_part, prints_part, puts_appended, puts_more, puts_none, puts_printed}
 
@@ -166,7 +165,7 @@ run_can m script seed old v words dropped new turns h e rest takes =
       state = h.last.state;
       stands = h.chooses.state;
       may = subst (λ (x : Module). May x h.last.state e) (sym h.image) may;
-      has_line = has_line m h.last.state e (leads_reached m script seed h.last h.done h.accepted h.script_of h.leads) may;
+      has_line = may_has_line m h.last.state e (leads_reached m script seed h.last h.done h.accepted h.script_of h.leads) may;
       room = omega (arith, few, kept, one);
     }
 
