@@ -1,6 +1,10 @@
 //! A run by a seed, recorded in a journal.
-ghost use Rattle.std.specs.Prelude.{◌≡◌, IsSome};
+ghost use Rattle.std.specs.Prelude.{◌≡◌, IsSome, [], length};
+ghost use Rattle.poke_base.specs.Host.{Appends};
 ghost use Rattle.recorded_run.specs.Running.{RunDoes};
+ghost use Rattle.recorded_run.specs.Stepping.{CanDo, RecordsEvent, RecordsEvents};
+ghost use Rattle.run_journal.specs.Laws.{HasLine};
+ghost use Rattle.run_journal.specs.Spelling.{event_line};
 ghost use Rattle.script_runner.specs.World.{StandsFor};
 ghost use Rattle.switching.specs.State.{first};
 
@@ -38,27 +42,61 @@ pub fn run<H: Host>(
     Ok(())
 }
 
-/// Does the chosen events to the end of the script.
+/// Records and does the chosen events, to the end of the script.
 fn run_events<H: Host>(
     world: &mut World,
     words: &mut Words,
     dropped: &mut Dropped,
     host: &mut H,
-) -> Result<(), WriteFail> {
+) -> Result<(), WriteFail>
+    requires making { IsSome (H.outside host.old).making }
+    requires first { StandsFor world.old (first world.old.image world.old.script) }
+    requires idle { world.old.idle ≡ 0 }
+    requires none { dropped.old.items ≡ [] }
+    ensures { RecordsEvents world.old.image world.old.script words.old world.new dropped.new.items (H.outside host.old) (H.outside host.new) result }
+{
     for _ in 0..=MOST_EVENTS {
         let Some(event) = world.choose(words) else {
             return Ok(());
         };
-        append_line(&event, host)?;
-        if let Some(acted) = show(world, &event, host)? {
-            keep_dropped(&acted, dropped);
+        match record_event(world, &event, dropped, host) {
+            Ok(()) => {}
+            Err(failed) => return Err(failed),
         }
     }
     Ok(())
 }
 
+/// Appends the line of an event that may come to the journal, does it, and prints what it shows. Keeps the place at which it
+/// dropped a tracer, if it did.
+fn record_event<H: Host>(
+    world: &mut World,
+    event: &Event,
+    dropped: &mut Dropped,
+    host: &mut H,
+) -> Result<(), WriteFail>
+    requires making { IsSome (H.outside host.old).making }
+    requires can { CanDo world.old event.now dropped.old.items }
+    ensures { RecordsEvent world.old event.now world.new dropped.old.items dropped.new.items (H.outside host.old) (H.outside host.new) result }
+{
+    match append_line(event, host) {
+        Ok(()) => {}
+        Err(failed) => return Err(failed),
+    }
+    match show(world, event, host) {
+        Ok(Some(acted)) => keep_dropped(&acted, dropped),
+        Ok(None) => {}
+        Err(failed) => return Err(failed),
+    }
+    Ok(())
+}
+
 /// Appends the line of an event to the journal.
-fn append_line<H: Host>(event: &Event, host: &mut H) -> Result<(), WriteFail> {
+fn append_line<H: Host>(event: &Event, host: &mut H) -> Result<(), WriteFail>
+    requires making { IsSome (H.outside host.old).making }
+    requires line { HasLine event.now }
+    ensures { Appends (H.outside host.old) (H.outside host.new) (event_line event.now) result }
+{
     let mut line = Line::new();
     line_of(event, &mut line);
     host.append(&line)
