@@ -1,4 +1,4 @@
-use Rattle.recorded_run.proofs.Runs.{drop_room, event_done, line_cut, text_cut}
+use Rattle.recorded_run.proofs.Runs.{drop_room, event_done, line_cut, shown_some, text_cut}
 use Rattle.recorded_run.proofs.recording.record_event.Goals as goal
 
 pub returns-in-Err : goal.returns-in-Err
@@ -6,7 +6,7 @@ returns-in-Err g c = line_cut c.args.world.now c.args.event.now c.in-Err.failed 
 
 pub keep_dropped-requires : goal.keep_dropped-requires
 keep_dropped-requires g c =
-    let shown = c.in-Ok-Some.ensures in
+    let shown = shown_some c.args.world.now c.show.new.world c.args.event.now _ _ c.in-Ok-Some.field-0 c.in-Ok-Some.acted c.in-Ok-Some.field-0-is c.in-Ok-Some.ensures in
     drop_room c.args.world.now c.show.new.world c.args.event.now shown.0 c.in-Ok-Some.acted c.args.dropped.now.items c.requires.can shown.1
 
 pub returns-in-Err-show : goal.returns-in-Err-show
@@ -16,5 +16,5 @@ returns-in-Err-show g c =
 
 pub returns-in-Ok-Some : goal.returns-in-Ok-Some
 returns-in-Ok-Some g c =
-    let shown = c.in-Ok-Some.ensures in
+    let shown = shown_some c.args.world.now c.show.new.world c.args.event.now _ _ c.in-Ok-Some.field-0 c.in-Ok-Some.acted c.in-Ok-Some.field-0-is c.in-Ok-Some.ensures in
     event_done c.args.world.now c.show.new.world c.args.event.now shown.0 c.in-Ok-Some.acted c.args.dropped.now.items c.keep_dropped.new.dropped.items _ _ _ c.in-Ok.ensures shown.1 shown.2 c.keep_dropped.ensures
