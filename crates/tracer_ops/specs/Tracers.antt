@@ -1,5 +1,5 @@
 -- What the events of a run make of a list of tracers.
-use Rattle.std.specs.Prelude.{◌≡◌, ⊤, ⊥, ℕ, List, [], ◌∷◌, ◌++◌, length, map, take, drop, slice_get, Option, Some, None, ◌+◌}
+use Rattle.std.specs.Prelude.{◌≡◌, ⊤, ℕ, List, [], ◌∷◌, ◌++◌, length, map, take, drop, slice_get, Option, Some, None, ◌+◌}
 use Rattle.tracer_ops.specs.Meaning.{IsAs, IsTotal, Meaning, hit}
 
 -- as many tracers, each as expected
