@@ -31,3 +31,19 @@ impl Tracer for Count {
         self.total
     }
 }
+
+#[cfg(test)]
+mod tests {
+    use super::Count;
+    use crate::Tracer;
+
+    #[test]
+    fn a_total_stays_at_the_greatest(rt: HostRuntime) {
+        let greatest = u64::MAX;
+        for (before, want) in [(0, 1), (greatest - 1, greatest), (greatest, greatest)] {
+            let mut count = Count { total: before };
+            count.hit(3, 0x40_1000);
+            assert_eq!(rt; count.total(), want, "after {before}");
+        }
+    }
+}

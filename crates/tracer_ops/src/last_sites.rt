@@ -49,3 +49,32 @@ fn add_site(sites: &mut ArrayVec<u64, 16>, site: u64)
     }
     sites.push(site);
 }
+
+#[cfg(test)]
+mod tests {
+    use super::LastSites;
+    use crate::Tracer;
+    use arrayvec::ArrayVec;
+
+    #[test]
+    fn the_last_16_sites_are_kept(rt: HostRuntime) {
+        for (hits, oldest) in [(0, 0), (1, 0), (15, 0), (16, 0), (17, 1), (40, 24)] {
+            let mut last = LastSites::new();
+            for site in 0..hits {
+                last.hit(0, site);
+            }
+            assert_eq!(rt; last.total(), hits);
+            assert!(rt;
+                last.sites.iter().copied().eq(oldest..hits),
+                "after {hits} hits"
+            );
+        }
+        let mut last = LastSites {
+            total: u64::MAX,
+            sites: ArrayVec::new(),
+        };
+        last.hit(0, 0x40_1000);
+        assert_eq!(rt; last.total(), u64::MAX);
+        assert_eq!(rt; last.sites.as_slice(), &[0x40_1000][..]);
+    }
+}

@@ -53,7 +53,6 @@ pub fn drop_at(tracers: &mut Vec<Box<dyn Tracer>>, place: u8) -> Result<u64, NoS
         });
     }
     let total = total_of_one(&tracers[index]);
-    let gone = tracers.remove(index);
-    drop(gone);
+    drop(tracers.remove(index));
     Ok(total)
 }

@@ -1,4 +1,4 @@
-use Rattle.std.proofs.Common.{◌≡◌, ◌<◌, ◌≤◌, IfOk, IfErr, OnOk, OnErr, map, length, slice_get, ℕ, ◌+◌, ◌-◌, ◌*◌}
+use Rattle.std.proofs.Common.{map}
 use Rattle.tracer_ops.proofs.Feeding.{AreFed}
 use Rattle.tracer_ops.proofs.list.feed.Given as goal
 
