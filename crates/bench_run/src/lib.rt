@@ -1,0 +1,8 @@
+//! The run of a generated module by a fixed script, counted and not shown.
+#![tactic(auto)]
+
+mod bench;
+mod counts;
+
+pub use bench::bench;
+pub use counts::Counts;
