@@ -1,5 +1,5 @@
 use Rattle.std.proofs.Common.{arith}
-use Rattle.recorded_run.proofs.Runs.{run_begun, run_can, run_cut, run_ends, run_making, run_more, run_over}
+use Rattle.recorded_run.proofs.Runs.{run_begun, run_can, run_cut, run_ends, run_more, run_over}
 use Rattle.recorded_run.proofs.recording.run_events.Goals as goal
 
 pub loop-init : goal.loop-init
