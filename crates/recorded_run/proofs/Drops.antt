@@ -188,8 +188,8 @@ drops_after m s (e ∷ events) =
     let one = drops_next m s e in
     let rest = drops_after m (next m s e) events in
     let both : length (places (said m s e ++ lines m (next m s e) events)) ≡ length (places (said m s e)) + length (places (lines m (next m s e) events)) =
-        ap length (places-append (said m s e) (lines m (next m s e) events))
-        ∙ length-append (places (said m s e)) (places (lines m (next m s e) events)) in
+    ap length (places-append (said m s e) (lines m (next m s e) events))
+    ∙ length-append (places (said m s e)) (places (lines m (next m s e) events)) in
     omega (arith, one, rest, both)
 
 -- of a script there are at most 64, with those of one event more

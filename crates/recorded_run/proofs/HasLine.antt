@@ -84,7 +84,6 @@ only P value holds x is = subst P (same_Some value x is) holds
 abbrev IsFew : ℕ → Type 0
 IsFew cpu = cpu ≤ 15
 
-
 -- the line of an event that may come
 pub may_has_line : (m : Module) (s : State) (e : Event) → IsReached m s → May m s e → HasLine e
 may_has_line m s Begin r may = record { cpu = nothing IsFew; bytes = nothing IsFetched }
@@ -110,9 +109,9 @@ may_has_line m s (Tick c) r may =
 no_turns : (s : State) → IsFinished s → has_turns s.opened s.steps ≡ true → ⊥
 no_turns s done turns =
     let none : has_turns None [] ≡ true =
-        ap (λ (steps : List ScriptStep). has_turns None steps) (sym done.steps)
-        ∙ ap (λ (opened : Option Walk). has_turns opened s.steps) (sym done.closed)
-        ∙ turns in
+    ap (λ (steps : List ScriptStep). has_turns None steps) (sym done.steps)
+    ∙ ap (λ (opened : Option Walk). has_turns opened s.steps) (sym done.closed)
+    ∙ turns in
     absurd (cc)
 
 no_due : (s : State) (d : _) → IsFinished s → due_of s.opened ≡ d → due_of None ≡ d

@@ -75,9 +75,9 @@ leads_within m ch last (e ∷ done) [] fit (c, w, first, leads) chosen =
 leads_within m ch last (e ∷ done) (f ∷ events) fit (c, w, first, leads) (c2, w2, first2, more) =
     let one = taken_one m ch e f c c2 w w2 first first2 in
     let too : IsChosen m (chooser_after m ch c w e) events =
-        subst (λ (x : Choice). IsChosen m (chooser_after m ch x w e) events) one.choice_is
-        (subst (λ (n : ℕ). IsChosen m (chooser_after m ch c2 n e) events) one.words_are
-        (subst (λ (x : Event). IsChosen m (chooser_after m ch c2 w2 x) events) one.event_is more)) in
+    subst (λ (x : Choice). IsChosen m (chooser_after m ch x w e) events) one.choice_is
+    (subst (λ (n : ℕ). IsChosen m (chooser_after m ch c2 n e) events) one.words_are
+    (subst (λ (x : Event). IsChosen m (chooser_after m ch c2 w2 x) events) one.event_is more)) in
     let rest = leads_within m (chooser_after m ch c w e) last done events (marks_next m ch.state e fit) leads too in
     record {
       rest = rest.rest;

@@ -1,6 +1,7 @@
 -- A run, event by event: the loop over the events that are chosen, and what comes before and after it.
-use Rattle.std.proofs.Common.{◌≡◌, ◌∙◌, inl, inr, ◌+◌, ◌≤◌, ℕ, min, List, [], ◌∷◌, ◌++◌, length, Ok, Err, IsSome, refl, sym, ap, subst, arith, append-nil, append_assoc, length-append}
+use Rattle.std.proofs.Common.{◌≡◌, ◌∙◌, inl, inr, ◌+◌, ◌≤◌, ℕ, min, List, [], ◌∷◌, ◌++◌, length, Option, Some, Result, Ok, Err, IsSome, refl, sym, ap, subst, arith, append-nil, append_assoc, length-append}
 use Rattle.std.specs.List.{flat_map}
+use Rattle.std.specs.Result.{IsErr, IsErrAnd}
 use Rattle.std.proofs.Math.Seq.{take-length}
 use Rattle.std.proofs.lemmas.List.{flat_map_more}
 use Rattle.module_image.specs.Module.{IsAccepted, Module}
@@ -25,9 +26,11 @@ use Rattle.script_runner.specs.declared.acted.Acted.{Acted}
 use Rattle.script_runner.specs.Choosing.{Chooses, IsOver, TakesNext}
 use Rattle.script_runner.specs.TraceText.{trace_text}
 use Rattle.script_runner.specs.World.{Acts, IsWorld, StandsFor, WorldSeen}
+use Rattle.recorded_run.specs.declared.fault.RunFault.{RunFault}
+use Rattle.recorded_run.specs.declared.fault.RunFault.TheVariants.{Write as WriteFault, Line as LineFault}
 use Rattle.recorded_run.specs.Puts.{Puts}
-use Rattle.recorded_run.specs.Running.{IsRun, RunsPart, RunsWhole}
-use Rattle.recorded_run.specs.Shown.{dropped_by}
+use Rattle.recorded_run.specs.Running.{IsRun, RunDoes, RunsPart, RunsWhole}
+use Rattle.recorded_run.specs.Shown.{Shows, dropped_by}
 use Rattle.recorded_run.specs.Stepping.{CanDo, CutsEvent, DoesEvent, EventsCut, EventsDone}
 use Rattle.recorded_run.specs.Trace.{end_text, event_text, events_text, places, trace, trace_end}
 use Rattle.recorded_run.proofs.Drops.{acted_places, few_drops}
@@ -51,6 +54,10 @@ event_done w v e text did kept keeps old middle new appends acts prints is = rec
       subst (λ (filed : List ℕ). Puts old new filed (event_text w.image s e)) (append-nil (event_line e))
       (subst (λ (shown : List ℕ). Puts old new (event_line e ++ []) shown) (acts.does.text_is s stands) both);
 }
+
+-- what was done of an event that came
+pub shown_some : (w v : WorldSeen) (e : Event) (old new : Outside) (shown : Option Acted) (did : Acted) → shown ≡ Some did → Shows w e v old new (Ok shown) → Shows w e v old new (Ok (Some did))
+shown_some w v e old new shown did is shows = subst (λ (o : Option Acted). Shows w e v old new (Ok o)) is shows
 
 -- its line wasn't appended whole
 pub line_cut : (w : WorldSeen) (e : Event) (why : WriteFail) (old new : Outside) → Appends {T = Unit {0}} {E = WriteFail} old new (event_line e) (Err why) → CutsEvent w e old new
@@ -160,7 +167,7 @@ run_can m script seed old v words dropped new turns h e rest takes =
     let few = few_drops m script h.done e h.script_of in
     let kept : length dropped ≡ length (places (lines m (first m script) h.done)) = ap length h.dropped_are in
     let one : length (places (said v.image h.last.state e)) ≡ length (places (said m (after m (first m script) h.done) e)) =
-        ap (λ (ls : List TraceLine). length (places ls)) (here_said m script seed old v words dropped new turns h e) in
+    ap (λ (ls : List TraceLine). length (places ls)) (here_said m script seed old v words dropped new turns h e) in
     record {
       state = h.last.state;
       stands = h.chooses.state;
@@ -276,10 +283,10 @@ events_cut m script seed old middle new appends cut =
     }
 
 -- what is printed at the end
-end_is : (m : Module) (script : ScriptValue) (v : WorldSeen) (dropped : List ℕ) (events : List Event) → v.image ≡ m → dropped ≡ places (lines m (first m script) events) → end_text v.image (after m (first m script) events) dropped ≡ trace_end m (first m script) events
-end_is m script v dropped events image is =
-    ap (λ (x : Module). end_text x (after m (first m script) events) dropped) image
-    ∙ ap (λ (ps : List ℕ). end_text m (after m (first m script) events) ps) is
+end_is : (m : Module) (script : ScriptValue) (v : WorldSeen) (dropped shown : List ℕ) (events : List Event) → v.image ≡ m → shown ≡ dropped → dropped ≡ places (lines m (first m script) events) → end_text v.image (after m (first m script) events) shown ≡ trace_end m (first m script) events
+end_is m script v dropped shown events image same is =
+    ap (λ (x : Module). end_text x (after m (first m script) events) shown) image
+    ∙ ap (λ (ps : List ℕ). end_text m (after m (first m script) events) ps) (same ∙ is)
 
 -- all events were done, and their journal is whole
 events_put : (m : Module) (script : ScriptValue) (seed : ℕ) (v : WorldSeen) (dropped : List ℕ) (old middle new : Outside) → Appends {T = Unit {0}} {E = WriteFail} old middle header (Ok tt) → (h : EventsDone m script seed v dropped middle new) → Puts old new (journal h.events) (events_text m (first m script) h.events)
@@ -287,11 +294,11 @@ events_put m script seed v dropped old middle new appends h =
     puts_more old middle new header [] (flat_map event_line h.events) (events_text m (first m script) h.events) (puts_appended old middle header tt appends) h.puts
 
 -- the end wasn't printed whole
-pub end_cut : (m : Module) (script : ScriptValue) (seed : ℕ) (v : WorldSeen) (dropped : List ℕ) (why : WriteFail) (old middle later new : Outside) → Appends {T = Unit {0}} {E = WriteFail} old middle header (Ok tt) → EventsDone m script seed v dropped middle later → ((s : State) → StandsFor v s → Prints {T = Unit {0}} {E = WriteFail} later new (end_text v.image s dropped) (Err why)) → RunsPart m script seed old new
-end_cut m script seed v dropped why old middle later new appends h prints =
+pub end_cut : (m : Module) (script : ScriptValue) (seed : ℕ) (v : WorldSeen) (dropped shown : List ℕ) (why : WriteFail) (old middle later new : Outside) → Appends {T = Unit {0}} {E = WriteFail} old middle header (Ok tt) → EventsDone m script seed v dropped middle later → shown ≡ dropped → ((s : State) → StandsFor v s → Prints {T = Unit {0}} {E = WriteFail} later new (end_text v.image s shown) (Err why)) → RunsPart m script seed old new
+end_cut m script seed v dropped shown why old middle later new appends h same prints =
     let s = after m (first m script) h.events in
     let before = events_put m script seed v dropped old middle later appends h in
-    let part = prints_part later new (end_text v.image s dropped) why (prints s h.stands) in
+    let part = prints_part later new (end_text v.image s shown) why (prints s h.stands) in
     record {
       events = h.events;
       run = run_of m script seed h.events h.chosen;
@@ -302,7 +309,7 @@ end_cut m script seed v dropped why old middle later new appends h prints =
         filed = [];
         text = part.done;
         filed_prefix = refl;
-        text_prefix = subst (λ (text : List ℕ). IsPrefix part.done text) (end_is m script v dropped h.events h.image h.dropped_are) part.prefix;
+        text_prefix = subst (λ (text : List ℕ). IsPrefix part.done text) (end_is m script v dropped shown h.events h.image same h.dropped_are) part.prefix;
         in_order = λ some. refl;
         puts = puts_more old later new (journal h.events) (events_text m (first m script) h.events) [] part.done before part.puts;
       });
@@ -310,16 +317,23 @@ end_cut m script seed v dropped why old middle later new appends h prints =
     }
 
 -- it was
-pub end_done : (m : Module) (script : ScriptValue) (seed : ℕ) (v : WorldSeen) (dropped : List ℕ) (old middle later new : Outside) → Appends {T = Unit {0}} {E = WriteFail} old middle header (Ok tt) → EventsDone m script seed v dropped middle later → ((s : State) → StandsFor v s → Prints {T = Unit {0}} {E = WriteFail} later new (end_text v.image s dropped) (Ok tt)) → RunsWhole m script seed old new
-end_done m script seed v dropped old middle later new appends h prints =
+pub end_done : (m : Module) (script : ScriptValue) (seed : ℕ) (v : WorldSeen) (dropped shown : List ℕ) (old middle later new : Outside) → Appends {T = Unit {0}} {E = WriteFail} old middle header (Ok tt) → EventsDone m script seed v dropped middle later → shown ≡ dropped → ((s : State) → StandsFor v s → Prints {T = Unit {0}} {E = WriteFail} later new (end_text v.image s shown) (Ok tt)) → RunsWhole m script seed old new
+end_done m script seed v dropped shown old middle later new appends h same prints =
     let s = after m (first m script) h.events in
     let before = events_put m script seed v dropped old middle later appends h in
-    let end = puts_printed later new (end_text v.image s dropped) tt (prints s h.stands) in
-    let both = puts_more old later new (journal h.events) (events_text m (first m script) h.events) [] (end_text v.image s dropped) before end in
+    let end = puts_printed later new (end_text v.image s shown) tt (prints s h.stands) in
+    let both = puts_more old later new (journal h.events) (events_text m (first m script) h.events) [] (end_text v.image s shown) before end in
     record {
       events = h.events;
       run = run_of m script seed h.events h.chosen;
       puts =
           subst (λ (filed : List ℕ). Puts old new filed (trace m (first m script) h.events)) (append-nil (journal h.events))
-          (subst (λ (text : List ℕ). Puts old new (journal h.events ++ []) (events_text m (first m script) h.events ++ text)) (end_is m script v dropped h.events h.image h.dropped_are) both);
+          (subst (λ (text : List ℕ). Puts old new (journal h.events ++ []) (events_text m (first m script) h.events ++ text)) (end_is m script v dropped shown h.events h.image same h.dropped_are) both);
     }
+
+-- ---- a write that failed is the fault `Write`
+
+pub write_failed : (m : Module) (script : ScriptValue) (seed : ℕ) (old new : Outside) (result : Result (Unit {0}) RunFault) → IsErr result → IsErrAnd result (λ why. why ≡ WriteFault) → RunsPart m script seed old new → RunDoes m script seed old new result
+write_failed m script seed old new (Ok done) failed why part = absurd (cc)
+write_failed m script seed old new (Err WriteFault) failed why part = part
+write_failed m script seed old new (Err (LineFault line)) failed why part = (let other : LineFault line ≡ WriteFault = why in absurd (cc))

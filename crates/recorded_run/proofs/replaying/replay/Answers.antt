@@ -1,6 +1,6 @@
 use Rattle.recorded_run.specs.declared.fault.RunFault.TheVariants.{Write}
 use Rattle.recorded_run.proofs.Underway.{ending_cut, ending_whole, replay_fault}
-use Rattle.recorded_run.proofs.replay.replay.Goals as goal
+use Rattle.recorded_run.proofs.replaying.replay.Goals as goal
 
 pub returns-in_err-print_end : goal.returns-in_err-print_end
 returns-in_err-print_end g c =

@@ -1,7 +1,7 @@
 use Rattle.std.proofs.Common.{length}
 use Rattle.switching.specs.State.{first}
 use Rattle.recorded_run.specs.Underway.{IsUnderway}
-use Rattle.recorded_run.proofs.replay.replay_events.Given as goal
+use Rattle.recorded_run.proofs.replaying.replay_events.Given as goal
 
 abbrev pub invariant-loop-event : goal.invariant-loop-event
 invariant-loop-event g l =

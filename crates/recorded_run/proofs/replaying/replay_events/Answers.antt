@@ -5,7 +5,7 @@ use Rattle.switching.specs.State.{first}
 use Rattle.recorded_run.specs.declared.fault.RunFault.TheVariants.{Write}
 use Rattle.recorded_run.specs.Underway.{IsUnderway}
 use Rattle.recorded_run.proofs.Underway.{acted_it, events_fault, found_it, room_now, underway_cut, underway_first, underway_push}
-use Rattle.recorded_run.proofs.replay.replay_events.Goals as goal
+use Rattle.recorded_run.proofs.replaying.replay_events.Goals as goal
 
 pub loop-event-init : goal.loop-event-init
 loop-event-init g c =

@@ -1,5 +1,5 @@
 //! A run by a seed, recorded in a journal.
-ghost use Rattle.std.specs.Prelude.{◌≡◌, IsSome, [], length};
+ghost use Rattle.std.specs.Prelude.{◌≡◌, IsSome, []};
 ghost use Rattle.poke_base.specs.Host.{Appends};
 ghost use Rattle.recorded_run.specs.Running.{RunDoes};
 ghost use Rattle.recorded_run.specs.Stepping.{CanDo, RecordsEvent, RecordsEvents};
@@ -25,16 +25,13 @@ const MOST_EVENTS: u32 = 8_106_496;
 ///
 /// # Errors
 /// `Write`: an append or a print failed; nothing further was done. It is never `Line`.
-pub fn run<H: Host>(
-    world: &mut World,
-    words: &mut Words,
-    host: &mut H,
-) -> Result<(), RunFault>
+pub fn run<H: Host>(world: &mut World, words: &mut Words, host: &mut H) -> Result<(), RunFault>
     requires making { IsSome (H.outside host.old).making }
     requires first { StandsFor world.old (first world.old.image world.old.script) }
     requires idle { world.old.idle ≡ 0 }
     ensures { RunDoes world.old.image world.old.script words.old (H.outside host.old) (H.outside host.new) result }
 {
+    world.reached();
     host.append(HEADER)?;
     let mut dropped = Dropped::new();
     run_events(world, words, &mut dropped, host)?;
@@ -55,6 +52,7 @@ fn run_events<H: Host>(
     requires none { dropped.old.items ≡ [] }
     ensures { RecordsEvents world.old.image world.old.script words.old world.new dropped.new.items (H.outside host.old) (H.outside host.new) result }
 {
+    world.reached();
     for _ in 0..=MOST_EVENTS {
         let Some(event) = world.choose(words) else {
             return Ok(());
