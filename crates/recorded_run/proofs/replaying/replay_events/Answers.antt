@@ -28,7 +28,7 @@ pub keep_dropped-requires : goal.keep_dropped-requires
 keep_dropped-requires g c =
     let w = c.args.world.now in
     let shows = acted_it _ _ _ _ _ c.in_ok-acted.field-0 c.in-Some-2.acted c.in-Some-2.is c.in_ok-acted.ensures in
-    room_now w.image w.script _ _ _ _ _ _ _ _ shows.0 c.in-Some-2.acted c.world.invariant.script_of c.loop-event.invariant shows.1
+    room_now w.image w.script _ _ _ _ _ _ _ _ shows.0 c.in-Some-2.acted c.reached.ensures.script_of c.loop-event.invariant shows.1
 
 pub loop-event-preserved : goal.loop-event-preserved
 loop-event-preserved g c =
