@@ -14,16 +14,16 @@ use Rattle.script_runner.specs.World.{Acts, MayNot, StandsFor, WorldSeen}
 use Rattle.script_runner.proofs.Reaching.{after_push, legal_push}
 use Rattle.script_text.specs.Laws.{IsScriptOf}
 use Rattle.script_text.specs.Script.{ScriptValue}
-use Rattle.switching.specs.Journal.{IsFinished, IsLegalSoFar, after, lines}
+use Rattle.switching.specs.Journal.{IsFinished, after, lines}
 use Rattle.switching.specs.May.{May}
 use Rattle.switching.specs.Next.{next}
 use Rattle.switching.specs.Said.{said}
 use Rattle.switching.specs.State.{State, first}
 use Rattle.recorded_run.specs.declared.fault.RunFault.{RunFault}
 use Rattle.recorded_run.specs.Puts.{Puts}
-use Rattle.recorded_run.specs.Replaying.{IsReplayed, ReadsLegal, ReplayDoes, ReplaysPart, ReplaysTo, ReplaysWhole}
+use Rattle.recorded_run.specs.Replaying.{ReplayDoes, ReplaysPart, ReplaysTo, ReplaysWhole}
 use Rattle.recorded_run.specs.Shown.{Shows, dropped_by}
-use Rattle.recorded_run.specs.Trace.{dropped_line, end_text, event_text, events_text, places, trace_end}
+use Rattle.recorded_run.specs.Trace.{end_text, event_text, events_text, places, trace_end}
 use Rattle.recorded_run.specs.Underway.{HasDone, HasReplayed, IsUnderway, ReplaysEvents}
 use Rattle.recorded_run.proofs.Drops.{acted_places, few_drops}
 use Rattle.recorded_run.proofs.Events.{events_text_push, places_push}
@@ -63,9 +63,9 @@ done_push m s events w v dropped e text did h acts =
       image = acts.does.image ∙ h.image;
       stands = subst (λ (t : State). StandsFor v t) (sym (after_push m s events e)) stands;
       dropped_are =
-        ap (λ (ps : List ℕ). ps ++ dropped_by did) h.dropped_are
-        ∙ ap (λ (ps : List ℕ). places (lines m s events) ++ ps) (dropped_now m s events w v dropped e text did h acts)
-        ∙ sym (places_push m s events e);
+          ap (λ (ps : List ℕ). ps ++ dropped_by did) h.dropped_are
+          ∙ ap (λ (ps : List ℕ). places (lines m s events) ++ ps) (dropped_now m s events w v dropped e text did h acts)
+          ∙ sym (places_push m s events e);
     }
 
 -- there is room for the tracer that it dropped
@@ -73,7 +73,7 @@ pub room_now : (m : Module) (script : ScriptValue) (text : List ℕ) (reader : R
 room_now m script text reader w v dropped old new e shown did of h acts =
     let had : length dropped ≡ length (places (lines m (first m script) h.events)) = ap length h.done.dropped_are in
     let more : length (dropped_by did) ≡ length (places (said m (after m (first m script) h.events) e)) =
-        ap length (dropped_now m (first m script) h.events w v dropped e shown did h.done acts) in
+    ap length (dropped_now m (first m script) h.events w v dropped e shown did h.done acts) in
     let few = few_drops m script h.events e of in
     omega (arith, had, more, few)
 
@@ -89,8 +89,8 @@ underway_push m s text reader after_it w v dropped old middle new e shown did h 
       };
       done = done_push m s h.events w v dropped e shown did h.done acts;
       puts = subst (λ (t : List ℕ). Puts old new [] t)
-        (ap (λ (t : List ℕ). events_text m s h.events ++ t) (text_now m s h.events w v dropped e shown did h.done acts) ∙ sym (events_text_push m s h.events e))
-        puts;
+          (ap (λ (t : List ℕ). events_text m s h.events ++ t) (text_now m s h.events w v dropped e shown did h.done acts) ∙ sym (events_text_push m s h.events e))
+          puts;
     }
 
 -- of what it shows a prefix was printed
