@@ -1,5 +1,5 @@
 -- A replay, event by event.
-use Rattle.std.proofs.Common.{◌≡◌, ◌∙◌, ◌+◌, ◌≤◌, ℕ, List, [], ◌∷◌, ◌++◌, length, inl, inr, Option, Some, IfSome, Result, IsErrAnd, Ok, Err, refl, sym, ap, subst, arith}
+use Rattle.std.proofs.Common.{◌≡◌, ◌∙◌, ◌+◌, ◌≤◌, ℕ, List, [], ◌∷◌, ◌++◌, length, inl, inr, Option, Some, None, IfSome, Result, IsErrAnd, Ok, Err, refl, sym, ap, subst, arith}
 use Rattle.std.proofs.lemmas.Result.{err_from_is_err_and}
 use Rattle.module_image.specs.Module.{Module}
 use Rattle.poke_base.specs.declared.host.WriteFail.{WriteFail}
@@ -120,8 +120,8 @@ refused_bad m s text reader w dropped old new bad h is = record {
 }
 
 -- the next event may not come
-pub refused_next : (m : Module) (s : State) (text : List ℕ) (reader after_it : ReaderState) (w v : WorldSeen) (dropped : List ℕ) (old new : Outside) (e : Event) (shown : List ℕ) → IsUnderway m s text reader w dropped old new → ReadsEvent reader after_it e → MayNot w e v shown → ReplaysTo m s text after_it.taken old new
-refused_next m s text reader after_it w v dropped old new e shown h reads not = record {
+refused_next : (m : Module) (s : State) (text : List ℕ) (reader after_it : ReaderState) (w v : WorldSeen) (dropped : List ℕ) (old new : Outside) (e : Event) (shown : List ℕ) (line : ℕ) → IsUnderway m s text reader w dropped old new → ReadsEvent reader after_it e → MayNot w e v shown → line ≡ after_it.taken → ReplaysTo m s text line old new
+refused_next m s text reader after_it w v dropped old new e shown line h reads not line_is = record {
   events = h.events;
   is = record {
     reader = reader;
@@ -131,20 +131,32 @@ refused_next m s text reader after_it w v dropped old new e shown h reads not = 
       next = after_it;
       reads = reads;
       not = subst (λ (n : Module). May n (after m s h.events) e → ⊥) h.done.image (not.not (after m s h.events) h.done.stands);
-      line_is = refl;
+      line_is = line_is;
     }));
   };
   puts = h.puts;
 }
 
+-- so it was answered, and nothing was done
+pub refused_none : (m : Module) (s : State) (text : List ℕ) (reader after_it : ReaderState) (w v : WorldSeen) (dropped : List ℕ) (old middle new : Outside) (e : Event) (found : Option Acted) (line : ℕ) → IsUnderway m s text reader w dropped old middle → ReadsEvent reader after_it e → found ≡ None → Shows w e v middle new (Ok found) → line ≡ after_it.taken → ReplaysTo m s text line old new
+refused_none m s text reader after_it w v dropped old middle new e found line h reads none shows line_is =
+    let not : Shows w e v middle new (Ok None) = subst (λ (o : Option Acted). Shows w e v middle new (Ok o)) none shows in
+    refused_next m s text reader after_it w v dropped old new e [] line
+    (subst (λ (o : Outside). IsUnderway m s text reader w dropped old o) (sym not.1) h) reads not.0 line_is
+
 -- an event is missing
-pub refused_end : (m : Module) (s : State) (text : List ℕ) (reader end : ReaderState) (w : WorldSeen) (dropped : List ℕ) (old new : Outside) → IsUnderway m s text reader w dropped old new → ReadsEnd reader end → ((t : State) → StandsFor w t → IsFinished t → ⊥) → ReplaysTo m s text (end.taken + 1) old new
-refused_end m s text reader end w dropped old new h reads not = record {
+pub refused_end : (m : Module) (s : State) (text : List ℕ) (reader end : ReaderState) (w : WorldSeen) (dropped : List ℕ) (old new : Outside) (line : ℕ) → IsUnderway m s text reader w dropped old new → ReadsEnd reader end → ((t : State) → StandsFor w t → IsFinished t → ⊥) → line ≡ end.taken → ReplaysTo m s text (line + 1) old new
+refused_end m s text reader end w dropped old new line h reads not line_is = record {
   events = h.events;
   is = record {
     reader = reader;
     before = h.before;
-    refused = inr (inr (record { end = end; reads = reads; not = not (after m s h.events) h.done.stands; line_is = refl }));
+    refused = inr (inr (record {
+      end = end;
+      reads = reads;
+      not = not (after m s h.events) h.done.stands;
+      line_is = ap (λ (n : ℕ). n + 1) line_is;
+    }));
   };
   puts = h.puts;
 }
