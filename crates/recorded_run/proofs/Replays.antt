@@ -1,5 +1,5 @@
 -- Laws of runs and replays.
-use Rattle.std.proofs.Common.{◌≡◌, ◌∙◌, ◌⊎◌, inl, inr, ℕ, List, [], ◌∷◌, ◌++◌, refl, sym, ap, subst}
+use Rattle.std.proofs.Common.{◌∙◌, inl, inr, ℕ, List, [], ◌∷◌, ◌++◌, refl, sym, ap, subst}
 use Rattle.std.specs.List.{All}
 use Rattle.std.proofs.lemmas.List.Elements.{All-cons, All-nil}
 use Rattle.module_image.specs.Module.{IsAccepted, Module}
@@ -20,7 +20,6 @@ use Rattle.switching.specs.Next.{next}
 use Rattle.switching.specs.State.{State, first}
 use Rattle.recorded_run.specs.Laws.{LegalJournalsAreReplayed, ReplaysAreOne, RunsAreReplayed}
 use Rattle.recorded_run.specs.Replaying.{IsMissing, IsNoNext, IsRefusedAt, IsRefusedNext, IsReplayed}
-use Rattle.recorded_run.specs.Running.{IsRun}
 use Rattle.recorded_run.proofs.Events.{after_both, legal_after}
 use Rattle.recorded_run.proofs.HasLine.{may_has_line}
 use Rattle.recorded_run.proofs.Readings.{ReadsRest, reads_rest}

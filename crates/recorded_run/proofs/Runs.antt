@@ -31,7 +31,7 @@ use Rattle.recorded_run.specs.declared.fault.RunFault.TheVariants.{Write as Writ
 use Rattle.recorded_run.specs.Puts.{Puts}
 use Rattle.recorded_run.specs.Running.{IsRun, RunDoes, RunsPart, RunsWhole}
 use Rattle.recorded_run.specs.Shown.{Shows, dropped_by}
-use Rattle.recorded_run.specs.Stepping.{CanDo, CutsEvent, DoesEvent, EventsCut, EventsDone}
+use Rattle.recorded_run.specs.Stepping.{CanDo, CutsEvent, DoesEvent, EventsCut, EventsDone, RecordsEvent, RecordsEvents}
 use Rattle.recorded_run.specs.Trace.{end_text, event_text, events_text, places, trace, trace_end}
 use Rattle.recorded_run.proofs.Drops.{acted_places, few_drops}
 use Rattle.recorded_run.proofs.Events.{events_text_push, places_push}
@@ -143,10 +143,6 @@ run_begun w words dropped o h stands idle none = record {
   dropped_are = none;
   puts = puts_none o;
 }
-
--- the file is still being made
-pub run_making : (m : Module) (script : ScriptValue) (seed : ℕ) (old : Outside) (v : WorldSeen) (words : ℕ) (dropped : List ℕ) (new : Outside) (turns : ℕ) → HasRun m script seed old v words dropped new turns → IsSome old.making → IsSome new.making
-run_making m script seed old v words dropped new turns h making = subst IsSome (sym h.puts.making) making
 
 -- the event that is taken next, of the module
 taken_of : (m : Module) (script : ScriptValue) (seed : ℕ) (old : Outside) (v : WorldSeen) (words : ℕ) (dropped : List ℕ) (new : Outside) (turns : ℕ) (h : HasRun m script seed old v words dropped new turns) (e : Event) (rest : ℕ) → TakesNext v.image h.last e rest → TakesNext m h.last e rest
@@ -337,3 +333,12 @@ pub write_failed : (m : Module) (script : ScriptValue) (seed : ℕ) (old new : O
 write_failed m script seed old new (Ok done) failed why part = absurd (cc)
 write_failed m script seed old new (Err WriteFault) failed why part = part
 write_failed m script seed old new (Err (LineFault line)) failed why part = (let other : LineFault line ≡ WriteFault = why in absurd (cc))
+
+-- a failed write is the same whatever its error, which has one value
+pub event_failed : (w v : WorldSeen) (e : Event) (kept keeps : List ℕ) (old new : Outside) (result : Result (Unit {0}) WriteFail) → IsErr result → CutsEvent w e old new → RecordsEvent w e v kept keeps old new result
+event_failed w v e kept keeps old new (Ok done) failed cut = absurd (cc)
+event_failed w v e kept keeps old new (Err why) failed cut = cut
+
+pub events_failed : (m : Module) (script : ScriptValue) (seed : ℕ) (v : WorldSeen) (dropped : List ℕ) (old new : Outside) (result : Result (Unit {0}) WriteFail) → IsErr result → EventsCut m script seed old new → RecordsEvents m script seed v dropped old new result
+events_failed m script seed v dropped old new (Ok done) failed cut = absurd (cc)
+events_failed m script seed v dropped old new (Err why) failed cut = cut

@@ -1,5 +1,5 @@
 -- A replay, event by event.
-use Rattle.std.proofs.Common.{◌≡◌, ◌∙◌, ◌+◌, ◌≤◌, ℕ, List, [], ◌∷◌, ◌++◌, length, inl, inr, Option, Some, IfSome, Result, IsErrAnd, Ok, Err, refl, sym, ap, subst, arith}
+use Rattle.std.proofs.Common.{◌≡◌, ◌∙◌, ◌+◌, ◌≤◌, ℕ, List, [], ◌∷◌, ◌++◌, length, inl, inr, Option, Some, None, IfSome, Result, IsErrAnd, Ok, Err, refl, sym, ap, subst, arith}
 use Rattle.std.proofs.lemmas.Result.{err_from_is_err_and}
 use Rattle.module_image.specs.Module.{Module}
 use Rattle.poke_base.specs.declared.host.WriteFail.{WriteFail}
@@ -14,16 +14,16 @@ use Rattle.script_runner.specs.World.{Acts, MayNot, StandsFor, WorldSeen}
 use Rattle.script_runner.proofs.Reaching.{after_push, legal_push}
 use Rattle.script_text.specs.Laws.{IsScriptOf}
 use Rattle.script_text.specs.Script.{ScriptValue}
-use Rattle.switching.specs.Journal.{IsFinished, IsLegalSoFar, after, lines}
+use Rattle.switching.specs.Journal.{IsFinished, after, lines}
 use Rattle.switching.specs.May.{May}
 use Rattle.switching.specs.Next.{next}
 use Rattle.switching.specs.Said.{said}
 use Rattle.switching.specs.State.{State, first}
 use Rattle.recorded_run.specs.declared.fault.RunFault.{RunFault}
 use Rattle.recorded_run.specs.Puts.{Puts}
-use Rattle.recorded_run.specs.Replaying.{IsReplayed, ReadsLegal, ReplayDoes, ReplaysPart, ReplaysTo, ReplaysWhole}
+use Rattle.recorded_run.specs.Replaying.{ReplayDoes, ReplaysPart, ReplaysTo, ReplaysWhole}
 use Rattle.recorded_run.specs.Shown.{Shows, dropped_by}
-use Rattle.recorded_run.specs.Trace.{dropped_line, end_text, event_text, events_text, places, trace_end}
+use Rattle.recorded_run.specs.Trace.{end_text, event_text, events_text, places, trace_end}
 use Rattle.recorded_run.specs.Underway.{HasDone, HasReplayed, IsUnderway, ReplaysEvents}
 use Rattle.recorded_run.proofs.Drops.{acted_places, few_drops}
 use Rattle.recorded_run.proofs.Events.{events_text_push, places_push}
@@ -63,9 +63,9 @@ done_push m s events w v dropped e text did h acts =
       image = acts.does.image ∙ h.image;
       stands = subst (λ (t : State). StandsFor v t) (sym (after_push m s events e)) stands;
       dropped_are =
-        ap (λ (ps : List ℕ). ps ++ dropped_by did) h.dropped_are
-        ∙ ap (λ (ps : List ℕ). places (lines m s events) ++ ps) (dropped_now m s events w v dropped e text did h acts)
-        ∙ sym (places_push m s events e);
+          ap (λ (ps : List ℕ). ps ++ dropped_by did) h.dropped_are
+          ∙ ap (λ (ps : List ℕ). places (lines m s events) ++ ps) (dropped_now m s events w v dropped e text did h acts)
+          ∙ sym (places_push m s events e);
     }
 
 -- there is room for the tracer that it dropped
@@ -73,7 +73,7 @@ pub room_now : (m : Module) (script : ScriptValue) (text : List ℕ) (reader : R
 room_now m script text reader w v dropped old new e shown did of h acts =
     let had : length dropped ≡ length (places (lines m (first m script) h.events)) = ap length h.done.dropped_are in
     let more : length (dropped_by did) ≡ length (places (said m (after m (first m script) h.events) e)) =
-        ap length (dropped_now m (first m script) h.events w v dropped e shown did h.done acts) in
+    ap length (dropped_now m (first m script) h.events w v dropped e shown did h.done acts) in
     let few = few_drops m script h.events e of in
     omega (arith, had, more, few)
 
@@ -89,8 +89,8 @@ underway_push m s text reader after_it w v dropped old middle new e shown did h 
       };
       done = done_push m s h.events w v dropped e shown did h.done acts;
       puts = subst (λ (t : List ℕ). Puts old new [] t)
-        (ap (λ (t : List ℕ). events_text m s h.events ++ t) (text_now m s h.events w v dropped e shown did h.done acts) ∙ sym (events_text_push m s h.events e))
-        puts;
+          (ap (λ (t : List ℕ). events_text m s h.events ++ t) (text_now m s h.events w v dropped e shown did h.done acts) ∙ sym (events_text_push m s h.events e))
+          puts;
     }
 
 -- of what it shows a prefix was printed
@@ -120,8 +120,8 @@ refused_bad m s text reader w dropped old new bad h is = record {
 }
 
 -- the next event may not come
-pub refused_next : (m : Module) (s : State) (text : List ℕ) (reader after_it : ReaderState) (w v : WorldSeen) (dropped : List ℕ) (old new : Outside) (e : Event) (shown : List ℕ) → IsUnderway m s text reader w dropped old new → ReadsEvent reader after_it e → MayNot w e v shown → ReplaysTo m s text after_it.taken old new
-refused_next m s text reader after_it w v dropped old new e shown h reads not = record {
+refused_next : (m : Module) (s : State) (text : List ℕ) (reader after_it : ReaderState) (w v : WorldSeen) (dropped : List ℕ) (old new : Outside) (e : Event) (shown : List ℕ) (line : ℕ) → IsUnderway m s text reader w dropped old new → ReadsEvent reader after_it e → MayNot w e v shown → line ≡ after_it.taken → ReplaysTo m s text line old new
+refused_next m s text reader after_it w v dropped old new e shown line h reads not line_is = record {
   events = h.events;
   is = record {
     reader = reader;
@@ -131,20 +131,32 @@ refused_next m s text reader after_it w v dropped old new e shown h reads not = 
       next = after_it;
       reads = reads;
       not = subst (λ (n : Module). May n (after m s h.events) e → ⊥) h.done.image (not.not (after m s h.events) h.done.stands);
-      line_is = refl;
+      line_is = line_is;
     }));
   };
   puts = h.puts;
 }
 
+-- so it was answered, and nothing was done
+pub refused_none : (m : Module) (s : State) (text : List ℕ) (reader after_it : ReaderState) (w v : WorldSeen) (dropped : List ℕ) (old middle new : Outside) (e : Event) (found : Option Acted) (line : ℕ) → IsUnderway m s text reader w dropped old middle → ReadsEvent reader after_it e → found ≡ None → Shows w e v middle new (Ok found) → line ≡ after_it.taken → ReplaysTo m s text line old new
+refused_none m s text reader after_it w v dropped old middle new e found line h reads none shows line_is =
+    let not : Shows w e v middle new (Ok None) = subst (λ (o : Option Acted). Shows w e v middle new (Ok o)) none shows in
+    refused_next m s text reader after_it w v dropped old new e [] line
+    (subst (λ (o : Outside). IsUnderway m s text reader w dropped old o) (sym not.1) h) reads not.0 line_is
+
 -- an event is missing
-pub refused_end : (m : Module) (s : State) (text : List ℕ) (reader end : ReaderState) (w : WorldSeen) (dropped : List ℕ) (old new : Outside) → IsUnderway m s text reader w dropped old new → ReadsEnd reader end → ((t : State) → StandsFor w t → IsFinished t → ⊥) → ReplaysTo m s text (end.taken + 1) old new
-refused_end m s text reader end w dropped old new h reads not = record {
+pub refused_end : (m : Module) (s : State) (text : List ℕ) (reader end : ReaderState) (w : WorldSeen) (dropped : List ℕ) (old new : Outside) (line : ℕ) → IsUnderway m s text reader w dropped old new → ReadsEnd reader end → ((t : State) → StandsFor w t → IsFinished t → ⊥) → line ≡ end.taken → ReplaysTo m s text (line + 1) old new
+refused_end m s text reader end w dropped old new line h reads not line_is = record {
   events = h.events;
   is = record {
     reader = reader;
     before = h.before;
-    refused = inr (inr (record { end = end; reads = reads; not = not (after m s h.events) h.done.stands; line_is = refl }));
+    refused = inr (inr (record {
+      end = end;
+      reads = reads;
+      not = not (after m s h.events) h.done.stands;
+      line_is = ap (λ (n : ℕ). n + 1) line_is;
+    }));
   };
   puts = h.puts;
 }

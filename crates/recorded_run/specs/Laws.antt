@@ -15,7 +15,7 @@ abbrev pub LegalJournalsAreReplayed : Type 0
 LegalJournalsAreReplayed =
     (m : Module) (script : ScriptValue) (events : List Event) → IsAccepted m → IsScriptOf m script → IsLegal m (first m script) events
     → IsReplayed m (first m script) (journal events) events
-      × ((others : List Event) (line : ℕ) → IsRefusedAt m (first m script) (journal events) others line → ⊥)
+    × ((others : List Event) (line : ℕ) → IsRefusedAt m (first m script) (journal events) others line → ⊥)
 
 -- a text is replayed as one list of events, and only where it is their journal
 abbrev pub ReplaysAreOne : Type 0

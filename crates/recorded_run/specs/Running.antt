@@ -1,6 +1,5 @@
 -- What a run leaves: the journal of the events that the choice rule takes, and their trace.
 use Rattle.std.specs.Prelude.{◌≡◌, ◌≢◌, ◌⊎◌, ℕ, List, [], ◌∷◌, ◌++◌, Result, Ok, Err}
-use Rattle.std.specs.List.{flat_map}
 use Rattle.module_image.specs.Module.{Module}
 use Rattle.poke_base.specs.Host.{Outside, Rose}
 use Rattle.poke_base.specs.Text.{IsPrefix}
@@ -13,7 +12,7 @@ use Rattle.switching.specs.State.{State, first}
 use Rattle.recorded_run.specs.declared.fault.RunFault.{RunFault}
 use Rattle.recorded_run.specs.declared.fault.RunFault.TheVariants.{Write, Line}
 use Rattle.recorded_run.specs.Puts.{Puts}
-use Rattle.recorded_run.specs.Trace.{end_text, event_text, events_text, trace, trace_end}
+use Rattle.recorded_run.specs.Trace.{event_text, events_text, trace, trace_end}
 
 -- these are the events that the choice rule takes by a seed, and they are legal
 pub record IsRun (m : Module) (script : ScriptValue) (seed : ℕ) (events : List Event) : Type 0 where

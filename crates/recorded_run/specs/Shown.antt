@@ -6,7 +6,6 @@ use Rattle.run_journal.specs.declared.event.Event.{Event}
 use Rattle.script_runner.specs.declared.acted.Acted.{Acted}
 use Rattle.script_runner.specs.declared.acted.Acted.TheVariants as acted
 use Rattle.script_runner.specs.World.{Acts, MayNot, WorldSeen}
-use Rattle.switching.specs.State.{State}
 
 -- an event may not come, and nothing was done; or it was done, and what it shows was printed, or a prefix of it
 abbrev pub Shows : WorldSeen → Event → WorldSeen → Outside → Outside → Result (Option Acted) WriteFail → Type 0

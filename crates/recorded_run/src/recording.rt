@@ -57,10 +57,7 @@ fn run_events<H: Host>(
         let Some(event) = world.choose(words) else {
             return Ok(());
         };
-        match record_event(world, &event, dropped, host) {
-            Ok(()) => {}
-            Err(failed) => return Err(failed),
-        }
+        record_event(world, &event, dropped, host)?;
     }
     Ok(())
 }
@@ -77,14 +74,9 @@ fn record_event<H: Host>(
     requires can { CanDo world.old event.now dropped.old.items }
     ensures { RecordsEvent world.old event.now world.new dropped.old.items dropped.new.items (H.outside host.old) (H.outside host.new) result }
 {
-    match append_line(event, host) {
-        Ok(()) => {}
-        Err(failed) => return Err(failed),
-    }
-    match show(world, event, host) {
-        Ok(Some(acted)) => keep_dropped(&acted, dropped),
-        Ok(None) => {}
-        Err(failed) => return Err(failed),
+    append_line(event, host)?;
+    if let Some(acted) = show(world, event, host)? {
+        keep_dropped(&acted, dropped);
     }
     Ok(())
 }

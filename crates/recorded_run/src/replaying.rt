@@ -41,6 +41,7 @@ fn replay_events<H: Host>(
     requires none { dropped.old.items ≡ [] }
     ensures { ReplaysEvents world.old.image (first world.old.image world.old.script) journal.now world.new dropped.new.items (H.outside host.old) (H.outside host.new) result }
 {
+    world.reached();
     let mut reader = Reader::new(journal);
     while let Some(event) = reader.next()? {
         match show(world, &event, host)? {

@@ -1,4 +1,3 @@
-use Rattle.std.proofs.Common.{List, ℕ}
 use Rattle.std.specs.List.{flat_map}
 use Rattle.module_image.specs.SiteLine.{site_lines}
 use Rattle.switching.specs.Laws.{held_text}

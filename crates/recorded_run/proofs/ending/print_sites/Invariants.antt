@@ -12,4 +12,4 @@ abbrev pub invariant-loop-site : goal.invariant-loop-site
 invariant-loop-site g l =
     (s : State) → StandsFor l.world s
     → Prints {T = Unit {0}} {E = WriteFail} (g.H.Host.outside l.initial.host) (g.H.Host.outside l.host)
-      (flat_map (line_of l.world.image.base (held_text l.world.image s)) (take l.site l.world.image.sites)) (Ok tt)
+    (flat_map (line_of l.world.image.base (held_text l.world.image s)) (take l.site l.world.image.sites)) (Ok tt)

@@ -1,5 +1,5 @@
 use Rattle.std.proofs.Common.{arith}
-use Rattle.recorded_run.proofs.Runs.{run_begun, run_can, run_cut, run_ends, run_making, run_more, run_over}
+use Rattle.recorded_run.proofs.Runs.{events_failed, run_begun, run_can, run_cut, run_ends, run_more, run_over}
 use Rattle.recorded_run.proofs.recording.run_events.Goals as goal
 
 pub loop-init : goal.loop-init
@@ -16,15 +16,16 @@ record_event-requires-clause-can g c =
     let h = c.loop.invariant in
     run_can _ _ _ _ c.loop.world c.loop.words c.loop.dropped.items _ c.loop.counter h c.in-Some.event c.choose.new.words (c.in-Some.ensures h.last h.chooses)
 
-pub returns-in-Err : goal.returns-in-Err
-returns-in-Err g c =
+pub returns-in_err-record_event : goal.returns-in_err-record_event
+returns-in_err-record_event g c =
     let h = c.loop.invariant in
-    run_cut _ _ _ _ c.loop.world c.loop.words c.loop.dropped.items _ c.loop.counter h c.in-Some.event c.choose.new.words _ (c.in-Some.ensures h.last h.chooses) c.in-Err.ensures
+    events_failed c.args.world.now.image c.args.world.now.script c.args.words.now c.record_event.new.world c.record_event.new.dropped.items _ _ c.from_residual.result c.from_residual.ensures.0
+    (run_cut _ _ _ _ c.loop.world c.loop.words c.loop.dropped.items _ c.loop.counter h c.in-Some.event c.choose.new.words _ (c.in-Some.ensures h.last h.chooses) c.in_err-record_event.ensures)
 
 pub loop-preserved : goal.loop-preserved
 loop-preserved g c =
     let h = c.loop.invariant in
-    run_more _ _ _ _ c.loop.world c.loop.words c.loop.dropped.items _ c.loop.counter h c.in-Some.event c.choose.new.words c.record_event.new.world c.record_event.new.dropped.items _ (c.in-Some.ensures h.last h.chooses) c.in-Ok.ensures
+    run_more _ _ _ _ c.loop.world c.loop.words c.loop.dropped.items _ c.loop.counter h c.in-Some.event c.choose.new.words c.record_event.new.world c.record_event.new.dropped.items _ (c.in-Some.ensures h.last h.chooses) c.in_ok-record_event.ensures
 
 pub returns : goal.returns
 returns g c =
