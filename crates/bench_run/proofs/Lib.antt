@@ -1,0 +1,4 @@
+mod Counting
+mod Passes
+mod Leading
+mod Running
