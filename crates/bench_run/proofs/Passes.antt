@@ -1,5 +1,5 @@
 -- How many passes events show: each fetch of another instruction than a breakpoint shows one, and so does each handler.
-use Rattle.std.proofs.Common.{◌≡◌, ◌∙◌, ◌+◌, ℕ, Bool, true, false, not, if◌then◌else◌, List, [], ◌∷◌, ◌++◌, Option, Some, None, slice_get, refl, sym, ap, arith}
+use Rattle.std.proofs.Common.{◌≡◌, ◌∙◌, ◌&&◌, ◌==◌, ◌+◌, ℕ, Bool, true, false, not, if◌then◌else◌, List, [], ◌∷◌, ◌++◌, Option, Some, None, slice_get, refl, sym, ap, arith}
 use Rattle.module_image.specs.Module.{Module, plain_at}
 use Rattle.run_journal.specs.declared.event.Event.{Event}
 use Rattle.run_journal.specs.declared.event.Event.TheVariants.{Begin, Write, Request, Take, Return, Plain, At, Handle, Tick}
@@ -67,10 +67,18 @@ proc_one o p f is one = ap (λ (x : Option Proc). passes (of_proc x f)) is ∙ o
 
 -- ---- each event
 
+and_true : (b : Bool) → (b && true) ≡ b
+and_true true = refl
+and_true false = refl
+
+and_false : (b : Bool) → (b && false) ≡ false
+and_false true = refl
+and_false false = refl
+
 breakpoint_same : (bytes : List ℕ) → switching.is_breakpoint bytes ≡ is_breakpoint bytes
 breakpoint_same [] = refl
-breakpoint_same (byte ∷ []) = refl
-breakpoint_same (byte ∷ more ∷ rest) = refl
+breakpoint_same (byte ∷ []) = and_true (byte == 0xcc)
+breakpoint_same (byte ∷ more ∷ rest) = and_false (byte == 0xcc)
 
 fetch_shows : (m : Module) (t : Switching) (c : ℕ) (bytes : List ℕ) (stop : Bool) → NeedsAt stop m t c bytes → passes (if stop then [] else of_proc (slice_get t.procs c) (λ p. said_pass c (pass_of t p.ip bytes) p)) ≡ one_if (not stop)
 fetch_shows m t c bytes true needs = refl

@@ -105,10 +105,11 @@ pub running_few : ChosenPrefixesEnd → (m : Module) (script : ScriptValue) (see
 running_few law m script seed w words n accepted of h =
     few_counted h.events n h.counted (law m script seed h.events accepted of (leads_so_far m (first_chooser m script seed) h.events h.last h.leads))
 
-pub running_smaller : ChosenPrefixesEnd → (m : Module) (script : ScriptValue) (seed : ℕ) (v : WorldSeen) (words : ℕ) (n : Counts) (e : Event) → IsAccepted m → IsScriptOf m script → Running m script seed v words (with_event n e) → most_events - (n.events + 1) < most_events - n.events
-running_smaller law m script seed v words n e accepted of h =
-    let most : n.events + 1 ≤ most_events = short law m script seed v words (with_event n e) accepted of h in
-    omega (arith, most)
+pub running_smaller : ChosenPrefixesEnd → (m : Module) (script : ScriptValue) (seed : ℕ) (v : WorldSeen) (words : ℕ) (old new : Counts) (e : Event) → IsAccepted m → IsScriptOf m script → new ≡ with_event old e → Running m script seed v words (with_event old e) → most_events - new.events < most_events - old.events
+running_smaller law m script seed v words old new e accepted of is h =
+    let most : old.events + 1 ≤ most_events = short law m script seed v words (with_event old e) accepted of h in
+    let one : new.events ≡ old.events + 1 = ap (λ (n : Counts). n.events) is in
+    omega (arith, most, one)
 
 -- ---- the end of the run
 

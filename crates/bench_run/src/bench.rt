@@ -21,7 +21,8 @@ use switching::choice_laws::chosen_prefixes_end;
 use switching::laws::traces_are_switched;
 
 /// Two processors that run before, between and after updates of all keys and of all trace sites.
-const SCRIPT: &[u8] = b"cpu main\ncpu main\nrun 100\ninc jk0\ntrace *\nrun 100\ncall ca fb\ncall cb -\ndec jk1\nuntrace *\ncall ca -\nrun 100\n";
+const SCRIPT: &[u8] =
+    b"cpu main\ncpu main\nrun 100\ninc jk0\ntrace *\nrun 100\ncall ca fb\ncall cb -\ndec jk1\nuntrace *\ncall ca -\nrun 100\n";
 
 /// Runs a module with 10 to 1,000 blocks by a fixed script, and counts what happens. The module is written, read and accepted,
 /// and its events are chosen by the words of a seed, so that the same blocks and seed give the same counts. No file is made, and

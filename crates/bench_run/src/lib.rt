@@ -6,3 +6,6 @@ mod counts;
 
 pub use bench::bench;
 pub use counts::Counts;
+
+#[cfg(test)]
+mod tests;

@@ -1,8 +1,8 @@
 //! The run of a small module.
 
 use crate::{Counts, bench};
-use std::process::Abort;
 use std::alloc::AllocGlobal;
+use std::process::Abort;
 use std::test::Fail;
 
 #[test]
