@@ -1,7 +1,7 @@
 -- What lines that are no passes and no drops do to tracers: nothing.
 use Rattle.std.proofs.Common.{◌≡◌, ◌∙◌, ℕ, if◌then◌else◌, List, [], ◌∷◌, ◌++◌, refl, ap, append-nil}
 use Rattle.module_image.specs.Module.{Module}
-use Rattle.switching.specs.Said.{TraceLine, Passes, said_mark}
+use Rattle.switching.specs.Said.{Passes, said_mark}
 use Rattle.x64_subset.specs.declared.insn.Insn.{Insn}
 use Rattle.x64_subset.specs.declared.proc.Life.{Life}
 use Rattle.x64_subset.specs.declared.proc.Mark.{Mark}

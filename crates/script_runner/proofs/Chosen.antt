@@ -4,37 +4,33 @@ use Rattle.std.specs.Prelude.{nat_le}
 use Rattle.std.specs.List.{flat_map, range_with_len}
 use Rattle.std.proofs.lemmas.Grind.{common_steps}
 use Rattle.std.proofs.lemmas.List.{length-map}
-use Rattle.std.proofs.lemmas.Option.{get_or_from_slice_get, same_Some, slice_get-map, slice_get-get_or}
+use Rattle.std.proofs.lemmas.Option.{same_Some, slice_get-map, slice_get-get_or}
 use Rattle.std.proofs.Math.Nat.{mod-lt}
 use Rattle.rand_xoshiro.specs.SplitMix64.{mix_u64}
 use Rattle.cpu_core.specs.declared.turn.TurnKind.TheVariants as kind
 use Rattle.cpu_core.specs.Fetch.{IsFetch, picked}
 use Rattle.cpu_core.specs.Standing.{ArePicked, end_of}
 use Rattle.cpu_core.specs.Turn.{CpuState, kind_of}
-use Rattle.module_image.specs.Module.{Module}
 use Rattle.insn_forms.specs.History.{since}
 use Rattle.poke_batch.specs.Walk.{Walk, due_of, has_taken}
 use Rattle.run_journal.specs.declared.event.Event.{Event}
 use Rattle.run_journal.specs.declared.event.Event.TheVariants.{Take}
 use Rattle.script_text.specs.declared.script.ScriptStep.{ScriptStep}
-use Rattle.stale_fetch.specs.Past.{Past, candidates}
+use Rattle.stale_fetch.specs.Past.{Past}
 use Rattle.stale_fetch.specs.Windows.{IsWindowsOf}
-use Rattle.switching.specs.Choice.{Choice, Chooser, Comes, Fetches, IsPicked, Takes, by_cpu, choices, chosen, drawn, due_choices, forced, forced_or_drawn, handler_by, handler_choices, is_wait, most_idle, of_cpu, patch_by as patch_rule, patch_choices, take_choices, turn_choices, turn_of}
+use Rattle.switching.specs.Choice.{Choice, Chooser, Comes, IsPicked, by_cpu, choices, chosen, drawn, forced, forced_or_drawn, handler_choices, is_wait, most_idle, of_cpu, patch_by as patch_rule, patch_choices, take_choices, turn_choices, turn_of}
 use Rattle.switching.specs.Journal.{IsFinished}
-use Rattle.switching.specs.Laws.{IsReached}
-use Rattle.switching.specs.May.{MayTurn, has_turns, is_begun_next}
+use Rattle.switching.specs.May.{MayTurn, has_turns}
 use Rattle.switching.specs.State.{Cpu, State, first, start, starting, text_end}
 use Rattle.switching.proofs.ChoiceAllowed.{MayChoose, chosen_may}
 use Rattle.switching.proofs.ChoiceMarks.{cpus_after}
 use Rattle.switching.proofs.ChoiceThere.{choices_there, chosen_there}
 use Rattle.script_runner.specs.declared.pick.Pick.{Pick}
-use Rattle.script_runner.specs.declared.pick.Pick.TheVariants as pick
 use Rattle.script_runner.specs.Choosing.{CanFetch, Chooses, IsOver, MakesEvent, TakesNext, by_number, by_processor, choice_of, choices_found, chosen_found, forced_found, handler_at, handler_found, of_found, patch_by, patch_found, picked_of, taking_found, turn_found}
 use Rattle.script_runner.specs.Turns.{HasTurn}
 use Rattle.script_runner.specs.World.{IsWorld, StandsFor, WorldSeen, left, past_of}
 use Rattle.script_runner.proofs.Looks.{found_is, turn_iff}
 use Rattle.script_runner.proofs.Pasts.{mark_there}
-use Rattle.script_runner.proofs.Turning.{states_of}
 use Rattle.script_runner.proofs.WorldFacts.{cpu_known}
 
 -- ---- of each processor the same is found as the rule has

@@ -1,12 +1,9 @@
 -- Each event as it is done: what it does, and that the machine is one again.
-use Rattle.std.proofs.Common.{◌≡◌, ◌∙◌, ◌+◌, ◌≤◌, ◌<◌, ℕ, min, Bool, true, false, if◌then◌else◌, List, [], ◌∷◌, length, drop, get_or, Option, Some, None, IfSome, slice_get, slice_set, Fits, w32, refl, sym, ap, subst, arith}
+use Rattle.std.proofs.Common.{◌≡◌, ◌∙◌, ◌+◌, ◌≤◌, ℕ, min, Bool, if◌then◌else◌, List, [], ◌∷◌, length, drop, get_or, Option, Some, None, IfSome, slice_get, slice_set, refl, sym, ap, subst, arith}
 use Rattle.std.proofs.lemmas.List.{length-set}
 use Rattle.std.proofs.lemmas.Option.{get_or_from_slice_get}
-use Rattle.cpu_core.specs.Turn.{CpuState, at_answer, at_turn, handled_turn, plain_answer, plain_here, plain_serialises, plain_turn}
-use Rattle.cpu_core.specs.Fetch.{IsFetch}
-use Rattle.insn_forms.specs.declared.forms.Change.{Change}
+use Rattle.cpu_core.specs.Turn.{CpuState, at_turn, handled_turn, plain_answer, plain_here, plain_serialises, plain_turn}
 use Rattle.int3_handler.specs.declared.handler.Handled.{Handled}
-use Rattle.int3_handler.specs.Handler.{answer}
 use Rattle.key_state.specs.Outcome.{Returns}
 use Rattle.key_state.specs.OutcomeLine.{outcome_line}
 use Rattle.module_image.specs.declared.command.Command.{Command}
@@ -19,11 +16,10 @@ use Rattle.script_text.specs.declared.script.ScriptStep.{ScriptStep}
 use Rattle.script_text.specs.declared.script.ScriptStep.TheVariants as step
 use Rattle.stale_fetch.specs.Past.{Past, with_serialised, with_write}
 use Rattle.stale_fetch.specs.Windows.{WindowState, IsWindowsOf}
-use Rattle.switching.specs.Choice.{idle_after, most_idle}
-use Rattle.switching.specs.May.{May}
-use Rattle.switching.specs.Next.{moved_on, next, taken_by}
-use Rattle.switching.specs.Said.{TraceLine, said, said_begun, said_handled, said_handler, said_plain, said_site, said_stepped}
-use Rattle.switching.specs.State.{Cpu, State, text_end}
+use Rattle.switching.specs.Choice.{most_idle}
+use Rattle.switching.specs.Next.{taken_by}
+use Rattle.switching.specs.Said.{said_begun, said_handled, said_handler, said_plain, said_site, said_stepped}
+use Rattle.switching.specs.State.{Cpu, State}
 use Rattle.x64_subset.specs.declared.insn.Insn.{Insn}
 use Rattle.x64_subset.specs.declared.proc.Life.{Life}
 use Rattle.x64_subset.specs.declared.proc.Proc.{Proc}
@@ -34,7 +30,7 @@ use Rattle.script_runner.specs.declared.acted.Acted.TheVariants as acted
 use Rattle.script_runner.specs.declared.progress.Progress.{Progress}
 use Rattle.script_runner.specs.declared.updater.Begun.{Begun}
 use Rattle.script_runner.specs.Operations.{operations, operations_of}
-use Rattle.script_runner.specs.Steps.{front, to_come}
+use Rattle.script_runner.specs.Steps.{front}
 use Rattle.script_runner.specs.TraceText.{drop_line, trace_text}
 use Rattle.script_runner.specs.Turns.{IsUsed, progress_of}
 use Rattle.script_runner.specs.Updating.{begun_lines, finds, is_ended, states_begun, update_begun}

@@ -1,5 +1,5 @@
 -- The changes of an update are few.
-use Rattle.std.proofs.Common.{◌≡◌, ◌∙◌, ◌≤◌, ◌<◌, ◌^◌, ℕ, List, length, Result, Ok, sym, ap, subst, arith, Fits, w32}
+use Rattle.std.proofs.Common.{◌≡◌, ◌∙◌, ◌≤◌, ℕ, List, length, Result, Ok, ap, arith, Fits, w32}
 use Rattle.insn_forms.specs.declared.forms.Change.{Change}
 use Rattle.key_state.specs.declared.count.CountRefused.{CountRefused}
 use Rattle.key_state.specs.After.{after}

@@ -1,15 +1,14 @@
 -- The machine before its first event.
-use Rattle.std.proofs.Common.{◌≡◌, ◌∙◌, ◌≤◌, ℕ, List, [], ◌∷◌, length, map, drop, replicate, None, refl, sym, ap, subst, arith}
+use Rattle.std.proofs.Common.{◌≡◌, ◌∙◌, ℕ, List, [], ◌∷◌, length, map, drop, replicate, None, refl, sym, ap, subst, arith}
 use Rattle.std.proofs.lemmas.List.{length-map}
 use Rattle.cpu_core.specs.Turn.{CpuState, new_cpu}
 use Rattle.module_image.specs.Held.{first_states}
-use Rattle.module_image.specs.Module.{IsAccepted, Module, States}
+use Rattle.module_image.specs.Module.{IsAccepted}
 use Rattle.poke_batch.specs.Walk.{BatchState}
 use Rattle.script_text.specs.Laws.{IsScriptOf}
-use Rattle.script_text.specs.Script.{ScriptValue}
 use Rattle.stale_fetch.specs.Past.{Past, new_past}
-use Rattle.stale_fetch.specs.Windows.{WindowState, IsWindowsOf}
-use Rattle.switching.specs.State.{Cpu, State, first, starting}
+use Rattle.stale_fetch.specs.Windows.{IsWindowsOf}
+use Rattle.switching.specs.State.{Cpu, first, starting}
 use Rattle.script_runner.specs.World.{IsWorld, StandsFor, WorldSeen, past_of}
 use Rattle.script_runner.proofs.Pasts.{past_with}
 use Rattle.script_runner.proofs.Turning.{states_of}

@@ -1,13 +1,13 @@
 -- The bytes that a running machine's text holds are those of the state that it stands for.
-use Rattle.std.proofs.Common.{◌≡◌, ◌∙◌, ◌+◌, ◌-◌, ◌<◌, ◌≤◌, ◌⊎◌, inl, inr, ℕ, Bool, true, false, cond, if◌then◌else◌, List, length, take, Option, Some, None, option_map, nat_lt, slice_get, refl, sym, ap, arith, lt-ltb}
+use Rattle.std.proofs.Common.{◌≡◌, ◌∙◌, ◌+◌, ◌-◌, ◌<◌, ◌≤◌, ◌⊎◌, inl, inr, ℕ, Bool, if◌then◌else◌, List, length, Some, None, option_map, nat_lt, slice_get, sym, ap, arith, lt-ltb}
 use Rattle.std.proofs.lemmas.Bool.{cases_lt, le-ltb}
 use Rattle.std.proofs.lemmas.Option.{slice_get-get_or, slice_get_past}
 use Rattle.std.proofs.Math.Seq.{take-length}
-use Rattle.insn_forms.specs.History.{byte, text_byte, text_memory, written}
+use Rattle.insn_forms.specs.History.{byte, text_memory, written}
 use Rattle.insn_forms.specs.Write.{Write}
 use Rattle.module_image.specs.Module.{Module}
-use Rattle.stale_fetch.specs.Past.{Past, held_in}
-use Rattle.stale_fetch.specs.Windows.{WindowState, window_held, IsWindowsOf}
+use Rattle.stale_fetch.specs.Past.{held_in}
+use Rattle.stale_fetch.specs.Windows.{window_held}
 use Rattle.stale_fetch.specs.WindowLaws.{windows_agree}
 use Rattle.switching.specs.State.{State, held_after, start}
 use Rattle.switching.proofs.Holding.{same_function}

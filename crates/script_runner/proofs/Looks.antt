@@ -1,5 +1,5 @@
 -- What a running machine finds is what may come in the states that it stands for.
-use Rattle.std.proofs.Common.{◌≡◌, ◌∙◌, ◌↔◌, ◌&&◌, ◌⊎◌, ◌+◌, ◌<◌, ◌≤◌, inl, inr, ℕ, Bool, true, false, List, [], ◌∷◌, length, get_or, Option, Some, None, IsTrue, slice_get, refl, sym, ap, subst, arith}
+use Rattle.std.proofs.Common.{◌≡◌, ◌∙◌, ◌↔◌, ◌⊎◌, ◌<◌, inl, inr, ℕ, Bool, true, false, List, [], ◌∷◌, get_or, Option, Some, None, IsTrue, slice_get, refl, sym, ap, subst, arith}
 use Rattle.std.proofs.lemmas.Option.{get_or_from_slice_get, same_Some}
 use Rattle.cpu_core.specs.declared.turn.TurnKind.TheVariants as kind
 use Rattle.cpu_core.specs.Fetch.{AreCandidates, IsFetch}
@@ -11,10 +11,8 @@ use Rattle.stale_fetch.specs.WindowLaws.{windows_agree}
 use Rattle.switching.proofs.Patched.{site_of}
 use Rattle.switching.proofs.Turns.{is_at}
 use Rattle.script_runner.proofs.Pasts.{mark_there}
-use Rattle.std.specs.Option.{is_none}
 use Rattle.cpu_core.specs.declared.turn.TurnKind.{TurnKind}
 use Rattle.cpu_core.specs.Turn.{CpuState, kind_of}
-use Rattle.module_image.specs.Module.{Module}
 use Rattle.poke_batch.specs.declared.batch.Due.{Due}
 use Rattle.poke_batch.specs.declared.batch.Due.TheVariants as due
 use Rattle.poke_batch.specs.Poke.{Item}

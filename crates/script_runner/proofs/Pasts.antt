@@ -1,13 +1,11 @@
 -- What the text has been after an event, and since when each processor fetches.
-use Rattle.std.proofs.Common.{◌≡◌, ◌∙◌, ◌+◌, ◌<◌, ◌≤◌, ℕ, zero, suc, Bool, true, false, if◌then◌else◌, List, [], ◌∷◌, ◌++◌, length, map, set, Option, Some, None, option_map, slice_get, slice_set, slice_index, refl, sym, ap, subst, arith}
+use Rattle.std.proofs.Common.{◌≡◌, ◌∙◌, ℕ, zero, suc, Bool, true, false, if◌then◌else◌, List, [], ◌∷◌, map, Some, slice_get, slice_set, slice_index, sym, ap}
 use Rattle.std.proofs.lemmas.List.{map-set}
-use Rattle.std.proofs.lemmas.Option.{slice_get-map}
-use Rattle.insn_forms.specs.History.{text_byte, text_memory, written, byte}
 use Rattle.insn_forms.specs.Write.{Write}
 use Rattle.module_image.specs.Module.{Module}
-use Rattle.stale_fetch.specs.Past.{Past, candidates, held_in, with_serialised, with_write}
+use Rattle.stale_fetch.specs.Past.{Past, with_serialised}
 use Rattle.switching.specs.Next.{marked}
-use Rattle.switching.specs.State.{Cpu, State, start}
+use Rattle.switching.specs.State.{Cpu, State}
 use Rattle.script_runner.specs.World.{past_of}
 
 abbrev pub marks_of : List Cpu → List ℕ

@@ -1,5 +1,5 @@
 -- What is picked is what the rule has.
-use Rattle.std.proofs.Common.{◌≡◌, ◌∙◌, ℕ, Bool, true, false, if◌then◌else◌, List, [], ◌∷◌, ◌++◌, map, Option, Some, None, refl, sym, ap, append-nil}
+use Rattle.std.proofs.Common.{◌≡◌, Bool, true, false, if◌then◌else◌, List, [], ◌∷◌, ◌++◌, map, Option, Some, None, refl, ap}
 use Rattle.poke_batch.specs.declared.batch.Due.{Due}
 use Rattle.poke_batch.specs.declared.batch.Due.TheVariants as due
 use Rattle.poke_batch.specs.Poke.{Item}
@@ -10,7 +10,7 @@ use Rattle.script_text.specs.declared.script.ScriptStep.{ScriptStep}
 use Rattle.switching.specs.Choice.{Choice, Comes, due_choices}
 use Rattle.switching.specs.May.{is_begun_next}
 use Rattle.script_runner.specs.declared.pick.Pick.{Pick}
-use Rattle.script_runner.specs.Choosing.{choice_of, chosen_of, patch_by}
+use Rattle.script_runner.specs.Choosing.{choice_of, patch_by}
 
 -- one more
 pub one_more_pick : (picks : List Pick) (p : Pick) → map choice_of (picks ++ p ∷ []) ≡ map choice_of picks ++ choice_of p ∷ []

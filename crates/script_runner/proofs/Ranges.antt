@@ -1,5 +1,5 @@
 -- What each processor may do, one processor more at a time.
-use Rattle.std.proofs.Common.{◌≡◌, ◌∙◌, ◌+◌, ℕ, zero, suc, List, [], ◌∷◌, ◌++◌, map, Option, Some, None, slice_get, refl, sym, ap, arith, append-nil, append_assoc}
+use Rattle.std.proofs.Common.{◌≡◌, ◌∙◌, ◌+◌, ℕ, zero, suc, List, ◌++◌, map, Option, Some, None, slice_get, refl, sym, ap, arith, append-nil, append_assoc}
 use Rattle.std.specs.List.{flat_map, range_with_len}
 use Rattle.cpu_core.specs.Turn.{CpuState}
 use Rattle.switching.specs.Choice.{Choice}

@@ -11,7 +11,7 @@ use Rattle.switching.specs.May.{May}
 use Rattle.switching.specs.Next.{next}
 use Rattle.switching.specs.State.{State, first}
 use Rattle.script_runner.specs.declared.acted.Acted.{Acted}
-use Rattle.script_runner.specs.World.{Does, IsWorld, MayCome, StandsFor, WorldSeen}
+use Rattle.script_runner.specs.World.{Does, IsWorld, MayCome, WorldSeen}
 
 pub after_push : (m : Module) (s : State) (events : List Event) (e : Event) → after m s (events ++ e ∷ []) ≡ next m (after m s events) e
 after_push m s [] e = refl

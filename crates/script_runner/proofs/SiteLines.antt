@@ -1,5 +1,6 @@
 -- What the sites of a running machine hold.
-use Rattle.std.proofs.Common.{◌≡◌, ◌∙◌, ◌+◌, ◌<◌, ℕ, List, length, sym, ap, subst, arith, take-length}
+use Rattle.std.proofs.Common.{◌≡◌, ◌∙◌, ◌+◌, ◌<◌, ℕ, List, length, sym, ap, arith}
+use Rattle.std.proofs.Math.Seq.{take-length}
 use Rattle.std.proofs.lemmas.List.{ext_get_or}
 use Rattle.insn_forms.specs.History.{written}
 use Rattle.insn_forms.specs.Write.{Write}

@@ -1,7 +1,7 @@
 -- The texts of the lines that an event shows.
-use Rattle.std.proofs.Common.{◌≡◌, ◌∙◌, ℕ, List, [], ◌∷◌, ◌++◌, refl, sym, ap, append-nil}
+use Rattle.std.proofs.Common.{◌≡◌, ℕ, List, [], ◌∷◌, ◌++◌, refl, ap, append-nil}
 use Rattle.cpu_core.specs.Lines.{mark_line, out_line, pass_line, stop_line}
-use Rattle.switching.specs.Said.{TraceLine, Passes, Outs, Stops, said_mark}
+use Rattle.switching.specs.Said.{TraceLine, Passes, Stops, said_mark}
 use Rattle.x64_subset.specs.declared.insn.Insn.{Insn}
 use Rattle.x64_subset.specs.declared.proc.Life.{Life}
 use Rattle.x64_subset.specs.declared.proc.Mark.{Mark}

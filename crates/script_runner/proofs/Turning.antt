@@ -1,33 +1,23 @@
 -- The turns of processors.
-use Rattle.std.proofs.Common.{◌≡◌, ◌∙◌, ◌+◌, ◌≤◌, ℕ, zero, suc, min, Bool, true, false, if◌then◌else◌, List, [], ◌∷◌, ◌++◌, length, map, set, Option, Some, None, option_map, IfSome, slice_get, slice_set, refl, sym, ap, subst, arith}
-use Rattle.std.specs.List.{flat_map}
-use Rattle.std.proofs.lemmas.List.{map-set, length-set}
+use Rattle.std.proofs.Common.{◌≡◌, ◌∙◌, ◌+◌, ℕ, min, true, false, if◌then◌else◌, List, length, map, Option, Some, None, option_map, IfSome, slice_get, slice_set, refl, sym, ap, subst}
+use Rattle.std.proofs.lemmas.List.{map-set}
 use Rattle.std.proofs.lemmas.Option.{same_Some, slice_get-map}
-use Rattle.cpu_core.specs.Turn.{CpuState, at_answer, at_turn, handled_turn, plain_answer, plain_here, plain_serialises, plain_turn}
+use Rattle.cpu_core.specs.Turn.{CpuState, at_turn, handled_turn, plain_here, plain_serialises, plain_turn}
 use Rattle.insn_forms.specs.Write.{Write}
-use Rattle.int3_handler.specs.Handler.{answer}
-use Rattle.module_image.specs.Module.{Module}
-use Rattle.poke_base.specs.Number.{decimal}
 use Rattle.poke_batch.specs.Walk.{Walk}
-use Rattle.run_journal.specs.declared.event.Event.{Event}
-use Rattle.run_journal.specs.declared.event.Event.TheVariants.{Plain, At, Handle, Tick}
+use Rattle.run_journal.specs.declared.event.Event.TheVariants.{Plain, Handle}
 use Rattle.script_text.specs.declared.script.ScriptStep.{ScriptStep}
 use Rattle.stale_fetch.specs.Past.{Past, with_serialised}
 use Rattle.stale_fetch.specs.Windows.{WindowState, IsWindowsOf}
-use Rattle.switching.specs.Choice.{idle_after, most_idle}
+use Rattle.switching.specs.Choice.{most_idle}
 use Rattle.switching.specs.Next.{at_cpu, marked, next, ran_handler, ran_plain, ran_site, used, with_cpu}
-use Rattle.switching.specs.Said.{TraceLine, of_cpu, said, said_handled, said_handler, said_plain, said_site, said_stepped}
+use Rattle.switching.specs.Said.{of_cpu, said, said_handler, said_plain, said_site}
 use Rattle.switching.specs.State.{Cpu, State}
-use Rattle.script_runner.specs.declared.acted.Acted.{Acted}
-use Rattle.script_runner.specs.declared.acted.Acted.TheVariants as acted
 use Rattle.script_runner.specs.declared.progress.Progress.{Progress}
-use Rattle.script_runner.specs.Operations.{Operation, operations, operations_of}
-use Rattle.script_runner.specs.Steps.{to_come}
-use Rattle.script_runner.specs.TraceText.{trace_text}
 use Rattle.script_runner.specs.Turns.{IsUsed, progress_of}
-use Rattle.script_runner.specs.World.{Does, StandsFor, WorldSeen, left, past_of}
+use Rattle.script_runner.specs.World.{StandsFor, WorldSeen, past_of}
 use Rattle.script_runner.proofs.Pasts.{marks_of, past_marked, past_with}
-use Rattle.script_runner.proofs.Used.{IsElse, script_left, used_else, used_left}
+use Rattle.script_runner.proofs.Used.{used_else, used_left}
 
 abbrev pub states_of : List Cpu → List CpuState
 states_of cpus = map (λ (p : Cpu). p.state) cpus

@@ -1,20 +1,17 @@
 -- The events of an update: its beginning, a write, a request, the request taken, its return.
-use Rattle.std.proofs.Common.{◌≡◌, ◌∙◌, ◌+◌, ◌≤◌, ◌<◌, ℕ, zero, suc, min, Bool, true, false, if◌then◌else◌, List, [], ◌∷◌, ◌++◌, length, drop, map, Option, Some, None, option_map, IfSome, slice_get, slice_set, refl, sym, ap, subst, arith}
+use Rattle.std.proofs.Common.{◌≡◌, ◌∙◌, ◌+◌, ℕ, zero, suc, Bool, true, false, if◌then◌else◌, List, [], ◌∷◌, length, drop, Option, Some, None, IfSome, slice_get, slice_set, refl, sym, ap, subst}
 use Rattle.std.specs.List.{list_all}
-use Rattle.std.proofs.lemmas.List.{map-set}
 use Rattle.cpu_core.specs.Turn.{CpuState}
 use Rattle.insn_forms.specs.declared.forms.Change.{Change}
-use Rattle.insn_forms.specs.Write.{Write as OneWrite}
-use Rattle.key_state.specs.Outcome.{Ending, Returns}
+use Rattle.key_state.specs.Outcome.{Returns}
 use Rattle.key_state.specs.OutcomeLine.{outcome_line}
 use Rattle.module_image.specs.declared.command.Command.{Command}
 use Rattle.module_image.specs.Module.{Module, States}
 use Rattle.poke_batch.specs.declared.batch.Due.{Due}
 use Rattle.poke_batch.specs.declared.batch.Due.TheVariants as due
-use Rattle.poke_batch.specs.Poke.{Item, poke}
+use Rattle.poke_batch.specs.Poke.{Item}
 use Rattle.poke_batch.specs.Poke.Item.{Puts, Syncs}
-use Rattle.poke_batch.specs.Walk.{BatchState, Walk, at_first, due_of, moved, moved_at, next_phase, opened, passed, taken}
-use Rattle.run_journal.specs.declared.event.Event.{Event}
+use Rattle.poke_batch.specs.Walk.{BatchState, Walk, due_of, moved, moved_at, next_phase, opened, passed, taken}
 use Rattle.run_journal.specs.declared.event.Event.TheVariants.{Begin, Write, Request, Take, Return}
 use Rattle.script_text.specs.declared.script.ScriptStep.{ScriptStep}
 use Rattle.script_text.specs.declared.script.ScriptStep.TheVariants as step
@@ -23,10 +20,9 @@ use Rattle.stale_fetch.specs.Windows.{WindowState, IsWindowsOf, window_held}
 use Rattle.switching.specs.Beginning.{Beginning, Goes, Refuses, beginning, clash_of_bytes}
 use Rattle.switching.specs.Next as machine
 use Rattle.switching.specs.Next.{at_cpu, begun_by, found, moved_on, next, taken_by, took, wrote}
-use Rattle.switching.specs.Said.{TraceLine, Drops, Ends, said, said_begun, said_first, said_return}
-use Rattle.switching.specs.State.{Cpu, State, held_after}
-use Rattle.script_runner.specs.Operations.{Operation, operations}
-use Rattle.script_runner.specs.Steps.{front, to_come}
+use Rattle.switching.specs.Said.{Drops, Ends, said, said_begun, said_first, said_return}
+use Rattle.switching.specs.State.{Cpu, State}
+use Rattle.script_runner.specs.Operations.{operations}
 use Rattle.script_runner.specs.declared.acted.Acted.TheVariants as acted
 use Rattle.script_runner.specs.declared.updater.Begun.{Begun}
 use Rattle.script_runner.specs.declared.updater.Begun.TheVariants as begun
@@ -34,7 +30,7 @@ use Rattle.script_runner.specs.TraceText.{drop_line, trace_text}
 use Rattle.script_runner.specs.Updating.{begun_lines, finds, is_ended, states_begun, update_begun}
 use Rattle.script_runner.specs.World.{Does, StandsFor, WorldSeen, left, past_of}
 use Rattle.script_runner.proofs.HeldBytes.{held_is}
-use Rattle.script_runner.proofs.Pasts.{marks_of, marks_set, past_with}
+use Rattle.script_runner.proofs.Pasts.{marks_set, past_with}
 use Rattle.script_runner.proofs.Texts.{one_line}
 use Rattle.script_runner.proofs.Turning.{IsThere, states_of, there}
 

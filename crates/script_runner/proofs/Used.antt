@@ -1,12 +1,10 @@
 -- A turn that is used: what is left of the script, and that nothing else changes.
-use Rattle.std.proofs.Common.{◌≡◌, ◌∙◌, ◌+◌, ◌==◌, ℕ, Bool, true, false, if◌then◌else◌, List, [], ◌∷◌, Option, Some, None, refl, sym, ap, subst}
-use Rattle.insn_forms.specs.Write.{Write}
-use Rattle.module_image.specs.Module.{States}
+use Rattle.std.proofs.Common.{◌≡◌, ◌∙◌, ◌+◌, ◌==◌, ℕ, Bool, true, false, if◌then◌else◌, List, [], ◌∷◌, Option, Some, None, refl, sym, ap}
 use Rattle.poke_batch.specs.Walk.{Walk}
 use Rattle.script_text.specs.declared.script.ScriptStep.{ScriptStep}
 use Rattle.script_text.specs.declared.script.ScriptStep.TheVariants as step
 use Rattle.switching.specs.Next.{used, used_at, used_of}
-use Rattle.switching.specs.State.{Cpu, State}
+use Rattle.switching.specs.State.{State}
 use Rattle.script_runner.specs.declared.progress.Progress.{Progress}
 use Rattle.script_runner.specs.Steps.{after_turn, to_come}
 use Rattle.script_runner.specs.Turns.{IsUsed, progress_of}

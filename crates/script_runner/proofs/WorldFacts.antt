@@ -1,5 +1,5 @@
 -- What every running machine has for its next event.
-use Rattle.std.proofs.Common.{◌≡◌, ◌∙◌, ◌+◌, ◌-◌, ◌≤◌, ◌<◌, ℕ, List, [], ◌∷◌, ◌++◌, length, map, drop, get_or, All, Option, Some, None, option_map, Ok, slice_get, slice_index, refl, sym, ap, subst, arith, zero, suc, Bool, true, false}
+use Rattle.std.proofs.Common.{◌≡◌, ◌∙◌, ◌≤◌, ◌<◌, ℕ, List, [], ◌∷◌, ◌++◌, length, drop, get_or, All, Option, Some, None, option_map, Ok, slice_get, refl, sym, ap, subst, arith, zero, suc, Bool, true, false}
 use Rattle.std.proofs.lemmas.List.{length-map}
 use Rattle.std.proofs.lemmas.List.Elements.{All-head}
 use Rattle.std.proofs.lemmas.Option.{get_or_from_slice_get, slice_get-map, slice_get_within}
@@ -11,7 +11,7 @@ use Rattle.key_state.specs.After.{after}
 use Rattle.key_state.specs.Changes.{AreStatesOf, changes}
 use Rattle.module_image.specs.declared.command.Command.{Command}
 use Rattle.module_image.specs.Command.{IsCommandOf}
-use Rattle.module_image.specs.Module.{Module, States}
+use Rattle.module_image.specs.Module.{States}
 use Rattle.module_image.proofs.Lent.{sites_laid_out}
 use Rattle.poke_batch.specs.declared.batch.Due.{Due}
 use Rattle.poke_batch.specs.declared.batch.Due.TheVariants as due
@@ -24,18 +24,18 @@ use Rattle.run_journal.specs.declared.event.Event.TheVariants.{At, Begin, Write}
 use Rattle.script_text.specs.declared.script.ScriptStep.{ScriptStep}
 use Rattle.script_text.specs.declared.script.ScriptStep.TheVariants as step
 use Rattle.script_text.specs.Laws.{IsStepOf}
-use Rattle.stale_fetch.specs.Past.{Past, candidates, with_write}
+use Rattle.stale_fetch.specs.Past.{candidates, with_write}
 use Rattle.stale_fetch.specs.Text.{Covers}
-use Rattle.stale_fetch.specs.Windows.{window_held, window_shape, windows_take, IsWindowsOf}
+use Rattle.stale_fetch.specs.Windows.{window_shape, windows_take}
 use Rattle.stale_fetch.specs.WindowLaws.{windows_agree, windows_room}
-use Rattle.switching.specs.May.{May, MayWrite}
+use Rattle.switching.specs.May.{MayWrite}
 use Rattle.switching.specs.Next.{next, wrote}
 use Rattle.switching.specs.State.{Cpu, State, held_after, start, text_end}
 use Rattle.switching.specs.StateLaws.{CanChangeTo, IsReady, TurnsAreLeft}
 use Rattle.switching.proofs.Reached.{two_candidates}
 use Rattle.switching.proofs.Ready.{states_ready}
 use Rattle.script_runner.specs.Steps.{front}
-use Rattle.script_runner.specs.Updating.{CanBegin, CanDo}
+use Rattle.script_runner.specs.Updating.{CanBegin}
 use Rattle.script_runner.specs.World.{IsWorld, MayCome, StandsFor, WorldSeen, left, past_of}
 use Rattle.script_runner.proofs.HeldBytes.{held_is}
 use Rattle.script_runner.proofs.Pasts.{mark_there, marks_of}

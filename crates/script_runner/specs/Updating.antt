@@ -1,6 +1,5 @@
 -- What the beginning of an update makes of keys and of the open update.
-use Rattle.std.specs.Prelude.{◌≡◌, ◌≤◌, ℕ, Bool, true, false, List, [], ◌∷◌, length, Option, Some, None, Ok}
-use Rattle.insn_forms.specs.declared.forms.Change.{Change}
+use Rattle.std.specs.Prelude.{◌≡◌, ◌≤◌, ℕ, Bool, true, false, List, [], ◌∷◌, length, Option, None, Ok}
 use Rattle.key_state.specs.After.{after}
 use Rattle.key_state.specs.Changes.{changes}
 use Rattle.key_state.specs.Outcome.{ending_of}

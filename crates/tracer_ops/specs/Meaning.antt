@@ -1,5 +1,5 @@
 -- What a tracer is, and what a hit makes of it.
-use Rattle.std.specs.Prelude.{◌≡◌, ◌≢◌, ⊤, ⊥, ℕ, ◌+◌, ◌-◌, ◌^◌, min, List, [], ◌∷◌, ◌++◌, drop, length}
+use Rattle.std.specs.Prelude.{◌≡◌, ◌≢◌, ℕ, ◌+◌, ◌-◌, ◌^◌, min, List, [], ◌∷◌, ◌++◌, drop, length}
 use Rattle.tracer_ops.specs.declared.tracer.TracerRule.{TracerRule}
 use Rattle.tracer_ops.specs.declared.tracer.TracerRule.TheVariants.{Count, LastSites, Untold}
 

@@ -1,6 +1,6 @@
 -- What the events of a run make of a list of tracers.
-use Rattle.std.specs.Prelude.{◌≡◌, ⊤, ⊥, ℕ, List, [], ◌∷◌, ◌++◌, length, map, take, drop, slice_get, Option, Some, None, ◌+◌}
-use Rattle.tracer_ops.specs.Meaning.{IsAs, IsTotal, Meaning, hit}
+use Rattle.std.specs.Prelude.{⊤, ℕ, List, [], ◌∷◌, ◌++◌, map, take, drop, ◌+◌}
+use Rattle.tracer_ops.specs.Meaning.{IsAs, Meaning, hit}
 
 -- as many tracers, each as expected
 abbrev pub AreAs : List Meaning → List Meaning → Type 0

@@ -4,6 +4,8 @@
 mod count;
 mod last_sites;
 mod list;
+#[cfg(test)]
+mod tests;
 mod tracer;
 
 pub use count::Count;

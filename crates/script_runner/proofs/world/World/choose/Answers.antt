@@ -1,8 +1,6 @@
 -- What is picked is what the rule takes.
-use Rattle.std.proofs.Common.{◌≡◌, Some, sym, subst}
-use Rattle.script_runner.specs.Choosing.{CanFetch, chosen_found, picked_of}
-use Rattle.script_runner.specs.World.{IsWorld, WorldSeen}
-use Rattle.script_runner.specs.WorldInside.{seen}
+use Rattle.std.proofs.Common.{subst}
+use Rattle.script_runner.specs.World.{IsWorld}
 use Rattle.script_runner.proofs.Chosen.{can_fetch, is_over, takes_next}
 use Rattle.script_runner.proofs.world.World.choose.Goals as goal
 

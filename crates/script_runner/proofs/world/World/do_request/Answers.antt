@@ -1,5 +1,4 @@
 -- What the event does, and that the machine is one again.
-use Rattle.std.proofs.Common.{◌∙◌, sym, ap}
 use Rattle.script_runner.specs.WorldInside.{seen}
 use Rattle.script_runner.proofs.Done.{requested_done}
 use Rattle.script_runner.proofs.world.World.do_request.Goals as goal

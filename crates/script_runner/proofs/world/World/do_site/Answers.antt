@@ -1,5 +1,4 @@
 -- What the event does, and that the machine is one again.
-use Rattle.std.proofs.Common.{◌∙◌, sym, ap}
 use Rattle.cpu_core.specs.Turn.{at_turn}
 use Rattle.script_runner.specs.WorldInside.{seen}
 use Rattle.script_runner.proofs.Done.{site_done, stepped_acts, stepped_line}

@@ -1,5 +1,5 @@
 -- What the event does, and that the machine is one again.
-use Rattle.std.proofs.Common.{◌∙◌, sym, ap}
+use Rattle.std.proofs.Common.{sym}
 use Rattle.script_runner.specs.WorldInside.{seen}
 use Rattle.script_runner.proofs.Done.{wrote_done}
 use Rattle.script_runner.proofs.WorldFacts.{inside_world, room_write}

@@ -1,5 +1,5 @@
 -- The machine before its first event.
-use Rattle.std.proofs.Common.{◌∙◌, length, refl, sym, ap}
+use Rattle.std.proofs.Common.{length, refl, ap}
 use Rattle.script_runner.proofs.First.{first_stands}
 use Rattle.script_runner.specs.WorldInside.{seen}
 use Rattle.script_runner.proofs.world.World.new.Goals as goal
