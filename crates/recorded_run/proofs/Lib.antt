@@ -1,0 +1,12 @@
+pub mod Puts
+pub mod Drops
+pub mod HasLine
+pub mod OneEvent
+pub mod Leads
+pub mod Runs
+pub mod ItemLines
+pub mod SiteLines
+pub mod Readings
+pub mod Events
+pub mod Underway
+pub mod Replays

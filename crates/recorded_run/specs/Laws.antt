@@ -1,5 +1,5 @@
 -- Runs and replays.
-use Rattle.std.specs.Prelude.{◌≡◌, ⊥, ℕ, List}
+use Rattle.std.specs.Prelude.{◌≡◌, ℕ, List}
 use Rattle.module_image.specs.Module.{IsAccepted, Module}
 use Rattle.run_journal.specs.declared.event.Event.{Event}
 use Rattle.run_journal.specs.Spelling.{journal}

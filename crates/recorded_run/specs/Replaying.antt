@@ -1,5 +1,5 @@
 -- What a journal's replay leaves: the trace of its events, or what they show before the first line that can't be.
-use Rattle.std.specs.Prelude.{◌≡◌, ◌⊎◌, ⊥, ℕ, ◌+◌, List, [], ◌++◌, Result, Ok, Err}
+use Rattle.std.specs.Prelude.{◌≡◌, ◌⊎◌, ℕ, ◌+◌, List, [], ◌++◌, Result, Ok, Err}
 use Rattle.module_image.specs.Module.{Module}
 use Rattle.poke_base.specs.Host.{Outside, Rose}
 use Rattle.poke_base.specs.Text.{IsPrefix}

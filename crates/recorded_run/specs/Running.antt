@@ -1,5 +1,5 @@
 -- What a run leaves: the journal of the events that the choice rule takes, and their trace.
-use Rattle.std.specs.Prelude.{◌≡◌, ◌≢◌, ◌⊎◌, ⊥, ℕ, List, [], ◌∷◌, ◌++◌, Result, Ok, Err}
+use Rattle.std.specs.Prelude.{◌≡◌, ◌≢◌, ◌⊎◌, ℕ, List, [], ◌∷◌, ◌++◌, Result, Ok, Err}
 use Rattle.std.specs.List.{flat_map}
 use Rattle.module_image.specs.Module.{Module}
 use Rattle.poke_base.specs.Host.{Outside, Rose}

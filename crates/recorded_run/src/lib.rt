@@ -4,11 +4,11 @@
 mod ending;
 mod fault;
 mod laws;
-mod replay;
-mod run;
+mod recording;
+mod replaying;
 mod show;
 
 pub use fault::RunFault;
 pub use laws::{legal_journals_are_replayed, replays_are_one, runs_are_replayed};
-pub use replay::replay;
-pub use run::run;
+pub use recording::run;
+pub use replaying::replay;

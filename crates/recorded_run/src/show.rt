@@ -1,5 +1,5 @@
 //! Doing one event, and showing what it shows.
-ghost use Rattle.std.specs.Prelude.{◌≡◌, ◌++◌, ◌<◌, length};
+ghost use Rattle.std.specs.Prelude.{◌≡◌, ◌++◌, ◌+◌, ◌≤◌, length};
 ghost use Rattle.poke_base.specs.Host.{Prints};
 ghost use Rattle.recorded_run.specs.Shown.{Shows, dropped_by};
 
@@ -26,10 +26,10 @@ pub fn show<H: Host>(
     let mut line = Line::new();
     match world.act(event, &mut line) {
         None => Ok(None),
-        Some(acted) => {
-            print_any(&line, host)?;
-            Ok(Some(acted))
-        }
+        Some(acted) => match print_any(&line, host) {
+            Ok(()) => Ok(Some(acted)),
+            Err(failed) => Err(failed),
+        },
     }
 }
 
@@ -43,9 +43,9 @@ fn print_any<H: Host>(piece: &[u8], host: &mut H) -> Result<(), WriteFail>
     host.print(piece)
 }
 
-/// Keeps the place at which an event dropped a tracer, if it did. There has to be room for one more.
+/// Keeps the place at which an event dropped a tracer, if it did. There has to be room for it.
 pub fn keep_dropped(acted: &Acted, dropped: &mut Dropped)
-    requires { length dropped.old.items < 64 }
+    requires { length dropped.old.items + length (dropped_by acted.now) ≤ 64 }
     ensures { dropped.new.items ≡ dropped.old.items ++ dropped_by acted.now }
 {
     if let Acted::Drop { place } = *acted {

@@ -53,7 +53,7 @@ impl Model for World {
 
 impl World {
     ghost use Rattle.std.specs.Prelude.{◌≡◌, IfOk};
-    ghost use Rattle.script_runner.specs.World.{StandsFor};
+    ghost use Rattle.script_runner.specs.World.{IsWorld, StandsFor};
     ghost use Rattle.script_text.specs.Laws.{IsScriptOf};
     ghost use Rattle.switching.specs.State.{first};
 
@@ -83,6 +83,14 @@ impl World {
             text,
             idle: 0,
         })
+    }
+
+    /// A machine that is lent runs a script of its module, and stands for a state that a legal prefix leads to. It does nothing:
+    /// its clause is what all laws of legal journals ask for.
+    pub fn reached(&self)
+        ensures { IsWorld self.now }
+    {
+        let _image = &self.image;
     }
 }
 

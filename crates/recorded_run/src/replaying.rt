@@ -1,6 +1,7 @@
 //! A journal that is replayed.
-ghost use Rattle.std.specs.Prelude.{◌≡◌};
+ghost use Rattle.std.specs.Prelude.{◌≡◌, []};
 ghost use Rattle.recorded_run.specs.Replaying.{ReplayDoes};
+ghost use Rattle.recorded_run.specs.Underway.{ReplaysEvents};
 ghost use Rattle.script_runner.specs.World.{StandsFor};
 ghost use Rattle.switching.specs.State.{first};
 
@@ -23,20 +24,24 @@ pub fn replay<H: Host>(world: &mut World, journal: &[u8], host: &mut H) -> Resul
     requires { StandsFor world.old (first world.old.image world.old.script) }
     ensures { ReplayDoes world.old.image (first world.old.image world.old.script) journal.now (H.outside host.old) (H.outside host.new) result }
 {
-    let mut reader = Reader::new(journal);
     let mut dropped = Dropped::new();
-    replay_events(world, &mut reader, &mut dropped, host)?;
+    replay_events(world, journal, &mut dropped, host)?;
     print_end(world, &dropped, host)?;
     Ok(())
 }
 
-/// Does the events of the lines that are left, to the end of the journal and of the script.
+/// Does the events of a journal, to its end and the script's, and shows what they show. Keeps where tracers are dropped.
 fn replay_events<H: Host>(
     world: &mut World,
-    reader: &mut Reader<'_>,
+    journal: &[u8],
     dropped: &mut Dropped,
     host: &mut H,
-) -> Result<(), RunFault> {
+) -> Result<(), RunFault>
+    requires first { StandsFor world.old (first world.old.image world.old.script) }
+    requires none { dropped.old.items ≡ [] }
+    ensures { ReplaysEvents world.old.image (first world.old.image world.old.script) journal.now world.new dropped.new.items (H.outside host.old) (H.outside host.new) result }
+{
+    let mut reader = Reader::new(journal);
     while let Some(event) = reader.next()? {
         match show(world, &event, host)? {
             Some(acted) => keep_dropped(&acted, dropped),
