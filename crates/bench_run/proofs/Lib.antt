@@ -2,3 +2,4 @@ mod Counting
 mod Passes
 mod Leading
 mod Running
+mod Made

@@ -3,7 +3,7 @@ use Rattle.std.proofs.Common.{◌≡◌, subst, sym}
 use Rattle.bench_run.specs.declared.counts.Counts.{Counts}
 use Rattle.bench_run.specs.Counting.{with_event}
 use Rattle.bench_run.proofs.Running.{Running, running_ends, running_few, running_next, running_smaller}
-use Rattle.bench_run.proofs.bench.run.Goals as goal
+use Rattle.bench_run.proofs.run.run.Goals as goal
 
 pub add-requires : goal.add-requires
 add-requires c =
