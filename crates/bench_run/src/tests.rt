@@ -1,16 +1,15 @@
-//! The run of a small module.
+//! Runs of the smallest module.
 
-use crate::{Counts, bench};
+use crate::bench;
 use std::alloc::AllocGlobal;
 use std::process::Abort;
 use std::test::Fail;
 
 #[test]
-fn counts_are_those_of_the_script(rt: HostRuntime) -> Result<(), Fail> {
-    let counts = bench(rt.alloc(), 10, 1)?;
-    assert_eq!(rt; counts, bench(rt.alloc(), 10, 1)?);
-    for seed in 1..3 {
-        let counts = bench(rt.alloc(), 10, seed)?;
+fn updates_are_the_same_whatever_the_seed(rt: HostRuntime) -> Result<(), Fail> {
+    let first = bench(rt.alloc(), 10, 1)?;
+    assert_eq!(rt; bench(rt.alloc(), 10, 1)?, first);
+    for counts in [first, bench(rt.alloc(), 10, 2)?] {
         assert_eq!(rt; counts.updates, 7);
         assert_eq!(rt; counts.writes, 78);
         assert_eq!(rt; counts.requests, 21);
