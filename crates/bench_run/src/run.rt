@@ -62,7 +62,7 @@ fn generated_image(alloc: Global, blocks: u32) -> Result<Image, NoMemory>
     match Image::accept(alloc, &elf) {
         Ok(image) => Ok(image),
         Err(why) => {
-            // Nothing else is wrong with the module.
+            // Nothing else is wrong with a module that is generated.
             prove!(why == Refused::NoMemory);
             Err(NoMemory)
         }
@@ -81,14 +81,14 @@ fn read_script(alloc: Global, image: &Image) -> Result<Script, NoMemory>
     match Script::read(alloc, SCRIPT, image) {
         Ok(script) => Ok(script),
         Err(why) => {
-            // No line is refused.
+            // No line of it is refused.
             prove!(why == ScriptError::NoMemory);
             Err(NoMemory)
         }
     }
 }
 
-/// Does the chosen events from the first one to the end of the script, and counts them.
+/// Does the chosen events from the first one to the end of the script, of which no run has more than 8,106,496, and counts them.
 fn run(world: &mut World, words: &mut Words) -> Counts
     requires accepted { IsAccepted world.old.image }
     requires of { IsScriptOf world.old.image world.old.script }
@@ -101,6 +101,7 @@ fn run(world: &mut World, words: &mut Words) -> Counts
     let mut counts = Counts::default();
     'events: while let Some(event) = world.choose(words) {
         let mut line = Line::new();
+        // A chosen event may come, so it is done.
         let _ = world.act(&event, &mut line);
         counts.add(&event);
     }
