@@ -1,5 +1,5 @@
 -- Counts over events: what one event more does, and that no count is more than there are events.
-use Rattle.std.proofs.Common.{◌≡◌, ◌∙◌, ◌≤◌, ◌+◌, ℕ, Bool, true, false, List, [], ◌∷◌, ◌++◌, length, refl, sym, ap, arith, length-append}
+use Rattle.std.proofs.Common.{◌≡◌, ◌∙◌, ◌≤◌, ◌+◌, ℕ, Bool, true, false, List, [], ◌∷◌, ◌++◌, length, sym, ap, arith, length-append}
 use Rattle.run_journal.specs.declared.event.Event.{Event}
 use Rattle.switching.specs.Choice.{most_events}
 use Rattle.bench_run.specs.declared.counts.Counts.{Counts}

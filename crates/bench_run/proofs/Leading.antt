@@ -1,11 +1,10 @@
 -- Events that the rule takes one after the other, and the chooser that they lead to.
-use Rattle.std.proofs.Common.{◌≡◌, ℕ, List, [], ◌∷◌, ◌++◌, refl, sym, ap, subst}
+use Rattle.std.proofs.Common.{◌≡◌, ℕ, List, [], ◌∷◌, ◌++◌, sym, ap, subst}
 use Rattle.module_image.specs.Module.{Module}
 use Rattle.run_journal.specs.declared.event.Event.{Event}
 use Rattle.switching.specs.Choice.{Choice, Chooser, IsChosen, Takes, chooser_after}
 use Rattle.switching.specs.ChoiceLaws.{IsChosenSoFar}
 use Rattle.switching.specs.Journal.{IsFinished, IsLegalSoFar}
-use Rattle.switching.specs.State.{State}
 use Rattle.switching.proofs.ChoiceLegal.{taken_may}
 use Rattle.switching.proofs.ChoiceMarks.{Fit, marks_next}
 

@@ -1,5 +1,5 @@
 -- The run of a module with some blocks is the run that is asked for.
-use Rattle.std.proofs.Common.{◌≡◌, ℕ, List, subst}
+use Rattle.std.proofs.Common.{◌≡◌, ℕ, subst}
 use Rattle.generated_module.specs.Bench.{bench_value}
 use Rattle.module_image.specs.Module.{Module}
 use Rattle.script_text.specs.Script.{ScriptValue}

@@ -1,5 +1,5 @@
 -- A machine that runs by the rule from its first event on, and the counts of the events so far.
-use Rattle.std.proofs.Common.{◌≡◌, ◌∙◌, ◌<◌, ◌≤◌, ◌+◌, ◌-◌, ℕ, min, List, [], ◌∷◌, ◌++◌, length, Option, Some, None, MatchOption, refl, sym, ap, subst, arith}
+use Rattle.std.proofs.Common.{◌≡◌, ◌∙◌, ◌<◌, ◌≤◌, ◌+◌, ◌-◌, ℕ, min, List, [], ◌∷◌, ◌++◌, Option, Some, None, MatchOption, refl, sym, ap, subst, arith}
 use Rattle.module_image.specs.Module.{IsAccepted, Module}
 use Rattle.run_journal.specs.declared.event.Event.{Event}
 use Rattle.run_journal.specs.declared.event.Event.TheVariants.{Begin, Write, Request, Take, Return, Plain, At, Handle, Tick}
@@ -18,7 +18,7 @@ use Rattle.script_runner.specs.declared.acted.Acted.{Acted}
 use Rattle.script_runner.specs.Choosing.{Chooses, IsOver, TakesNext}
 use Rattle.script_runner.specs.World.{Acts, Does, MayNot, StandsFor, WorldSeen}
 use Rattle.bench_run.specs.declared.counts.Counts.{Counts}
-use Rattle.bench_run.specs.Counts.{AreCounts, how_many, is_pass}
+use Rattle.bench_run.specs.Counts.{how_many, is_pass}
 use Rattle.bench_run.specs.Counting.{AreFew, with_event}
 use Rattle.bench_run.specs.Run.{IsRun}
 use Rattle.bench_run.proofs.Counting.{Counted, counted_next, few_counted}

@@ -2,9 +2,9 @@
 use Rattle.std.specs.Prelude.{◌≡◌, ◌+◌, ◌==◌, ℕ, Bool, true, false, if◌then◌else◌, List, [], ◌∷◌, length}
 use Rattle.module_image.specs.Module.{Module}
 use Rattle.run_journal.specs.declared.event.Event.{Event}
-use Rattle.run_journal.specs.declared.event.Event.TheVariants.{Begin, Write, Request, Take, Return, Plain, At, Handle, Tick}
+use Rattle.run_journal.specs.declared.event.Event.TheVariants.{Write, Request, Take, Return, At}
 use Rattle.switching.specs.Journal.{lines}
-use Rattle.switching.specs.Said.{TraceLine, Opens, Ends, Drops, Passes, Outs, Stops}
+use Rattle.switching.specs.Said.{TraceLine, Passes}
 use Rattle.switching.specs.State.{State}
 use Rattle.bench_run.specs.declared.counts.Counts.{Counts}
 

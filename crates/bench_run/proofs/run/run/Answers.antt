@@ -1,7 +1,6 @@
 -- The run by the rule, event by event, and its end.
-use Rattle.std.proofs.Common.{◌≡◌, subst, sym}
+use Rattle.std.proofs.Common.{subst, sym}
 use Rattle.bench_run.specs.declared.counts.Counts.{Counts}
-use Rattle.bench_run.specs.Counting.{with_event}
 use Rattle.bench_run.proofs.Running.{Running, running_ends, running_few, running_next, running_smaller}
 use Rattle.bench_run.proofs.run.run.Goals as goal
 
