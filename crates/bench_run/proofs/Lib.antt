@@ -1,0 +1,5 @@
+mod Counting
+mod Passes
+mod Leading
+mod Running
+mod Made

@@ -1,5 +1,5 @@
 -- The run of a generated module by a fixed script.
-use Rattle.std.specs.Prelude.{◌≡◌, ℕ, List}
+use Rattle.std.specs.Prelude.{ℕ, List}
 use Rattle.elf_build.specs.declared.plan.Plan.{Plan}
 use Rattle.elf_build.specs.File.{file_of}
 use Rattle.elf_build.specs.Generated.{IsGenerated}

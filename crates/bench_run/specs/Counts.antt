@@ -2,9 +2,9 @@
 use Rattle.std.specs.Prelude.{◌≡◌, ◌+◌, ◌==◌, ℕ, Bool, true, false, if◌then◌else◌, List, [], ◌∷◌, length}
 use Rattle.module_image.specs.Module.{Module}
 use Rattle.run_journal.specs.declared.event.Event.{Event}
-use Rattle.run_journal.specs.declared.event.Event.TheVariants.{Begin, Write, Request, Take, Return, Plain, At, Handle, Tick}
+use Rattle.run_journal.specs.declared.event.Event.TheVariants.{Write, Request, Take, Return, At}
 use Rattle.switching.specs.Journal.{lines}
-use Rattle.switching.specs.Said.{TraceLine, Opens, Ends, Drops, Passes, Outs, Stops}
+use Rattle.switching.specs.Said.{TraceLine, Passes}
 use Rattle.switching.specs.State.{State}
 use Rattle.bench_run.specs.declared.counts.Counts.{Counts}
 
@@ -43,12 +43,12 @@ abbrev pub is_pass : TraceLine → Bool
 is_pass (Passes c at insn) = true
 is_pass _ = false
 
--- these are the counts of the events from a state on
-pub record AreCounts (m : Module) (s : State) (events : List Event) (n : Counts) : Type 0 where
-  pub updates : n.updates ≡ how_many is_return events
-  pub writes : n.writes ≡ how_many is_write events
-  pub requests : n.requests ≡ how_many is_request events
-  pub takes : n.takes ≡ how_many is_take events
-  pub passes : n.passes ≡ how_many is_pass (lines m s events)
-  pub traps : n.traps ≡ how_many is_trap events
-  pub events : n.events ≡ length events
+-- these are the counts of a journal from a state on
+pub record AreCounts (m : Module) (s : State) (journal : List Event) (n : Counts) : Type 0 where
+  pub updates : n.updates ≡ how_many is_return journal
+  pub writes : n.writes ≡ how_many is_write journal
+  pub requests : n.requests ≡ how_many is_request journal
+  pub takes : n.takes ≡ how_many is_take journal
+  pub passes : n.passes ≡ how_many is_pass (lines m s journal)
+  pub traps : n.traps ≡ how_many is_trap journal
+  pub events : n.events ≡ length journal

@@ -1,2 +1,4 @@
 pub mod Counts
+pub mod Counting
+pub mod Run
 pub mod Bench

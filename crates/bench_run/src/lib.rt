@@ -1,8 +1,11 @@
 //! The run of a generated module by a fixed script, counted and not shown.
 #![tactic(auto)]
 
-mod bench;
 mod counts;
+mod run;
 
-pub use bench::bench;
 pub use counts::Counts;
+pub use run::bench;
+
+#[cfg(test)]
+mod tests;

@@ -1,1 +1,0 @@
-//! The run of a generated module.
