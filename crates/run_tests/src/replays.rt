@@ -23,14 +23,23 @@ fn replays<R: Abort + AllocGlobal>(
 const SWITCHED: &[u8] = b"cpu f\ninc k\nrun 3\n";
 
 /// The processor fetches the old instruction after its first byte was written: a stale byte.
-const STALE: &[u8] = b"journal 1\nb\nw\na 0 0f1f440000\ns\nt 0\nw\nw\nw\nw\ns\nt 0\nw\ns\nt 0\nr\np 0\np 0\np 0\n";
+const STALE: &[u8] =
+    b"journal 1\nb\nw\na 0 0f1f440000\ns\nt 0\nw\nw\nw\nw\ns\nt 0\nw\ns\nt 0\nr\np 0\np 0\np 0\n";
 
 /// What its events show, and what the site then holds.
-const STALE_TEXT: &[u8] = b"update 1 begin 1\n0 401000 nop\nupdate 1 done 1\n0 out 10 01\n0 done\nsite 401000 jump e909000000\n";
+const STALE_TEXT: &[u8] =
+    b"update 1 begin 1\n0 401000 nop\nupdate 1 done 1\n0 out 10 01\n0 done\nsite 401000 jump e909000000\n";
 
 #[test]
 fn journals_are_replayed(rt: HostRuntime) -> Result<(), Fail> {
-    replays(&rt, "a stale byte", &BRANCH, SWITCHED, STALE, (0, STALE_TEXT, b""))?;
+    replays(
+        &rt,
+        "a stale byte",
+        &BRANCH,
+        SWITCHED,
+        STALE,
+        (0, STALE_TEXT, b""),
+    )?;
     replays(
         &rt,
         "a tail call becomes a return",
@@ -52,7 +61,14 @@ type Refused<'a> = (&'a str, Small<'a>, &'a [u8], &'a [u8], &'a [u8], &'a [u8]);
 fn a_line_that_cannot_be_is_named(rt: HostRuntime) -> Result<(), Fail> {
     let begins: &[u8] = b"update 1 begin 1\n";
     let rows: [Refused<'_>; 16] = [
-        ("old bytes after a request", BRANCH, SWITCHED, b"journal 1\nb\nw\ns\nt 0\na 0 0f1f440000\n", begins, b"line 6"),
+        (
+            "old bytes after a request",
+            BRANCH,
+            SWITCHED,
+            b"journal 1\nb\nw\ns\nt 0\na 0 0f1f440000\n",
+            begins,
+            b"line 6",
+        ),
         (
             "old bytes after the handler",
             LOOP,
@@ -61,20 +77,111 @@ fn a_line_that_cannot_be_is_named(rt: HostRuntime) -> Result<(), Fail> {
             b"update 1 begin 1\n0 401005 jmp 40100f\n",
             b"line 11",
         ),
-        ("torn bytes", CALL, b"cpu f\ncall ck b\nrun 1\n", b"journal 1\nb\nw\ns\nt 0\nw\na 0 e809000000\n", begins, b"line 7"),
-        ("torn bytes at once", CALL, b"cpu f\ncall ck b\nrun 1\n", b"journal 1\nb\nw\na 0 e809000000\n", begins, b"line 4"),
+        (
+            "torn bytes",
+            CALL,
+            b"cpu f\ncall ck b\nrun 1\n",
+            b"journal 1\nb\nw\ns\nt 0\nw\na 0 e809000000\n",
+            begins,
+            b"line 7",
+        ),
+        (
+            "torn bytes at once",
+            CALL,
+            b"cpu f\ncall ck b\nrun 1\n",
+            b"journal 1\nb\nw\na 0 e809000000\n",
+            begins,
+            b"line 4",
+        ),
         ("an empty journal", BRANCH, SWITCHED, b"", b"", b"line 1"),
-        ("a space after the header", BRANCH, SWITCHED, b"journal 1 \nb\n", b"", b"line 1"),
-        ("another header", BRANCH, SWITCHED, b"journal 01\nb\n", b"", b"line 1"),
-        ("a header of another kind", BRANCH, SWITCHED, b"journal 2\nb\n", b"", b"line 1"),
-        ("a carriage return", BRANCH, SWITCHED, b"journal 1\r\nb\n", b"", b"line 1"),
-        ("no line feed", BRANCH, SWITCHED, b"journal 1", b"", b"line 1"),
-        ("a header alone", BRANCH, SWITCHED, b"journal 1\n", b"", b"line 2"),
-        ("upper case", BRANCH, SWITCHED, b"journal 1\nb\nw\na 0 0F1F440000\n", begins, b"line 4"),
-        ("ten bytes", BRANCH, SWITCHED, b"journal 1\nb\na 0 0f1f4400000f1f440000\n", begins, b"line 3"),
-        ("processor 16", BRANCH, SWITCHED, b"journal 1\nb\nw\nt 16\n", begins, b"line 4"),
-        ("a leading zero", BRANCH, SWITCHED, b"journal 1\nb\nw\ns\nt 00\n", begins, b"line 5"),
-        ("no line feed at the end", BRANCH, SWITCHED, b"journal 1\nb\nw", begins, b"line 3"),
+        (
+            "a space after the header",
+            BRANCH,
+            SWITCHED,
+            b"journal 1 \nb\n",
+            b"",
+            b"line 1",
+        ),
+        (
+            "another header",
+            BRANCH,
+            SWITCHED,
+            b"journal 01\nb\n",
+            b"",
+            b"line 1",
+        ),
+        (
+            "a header of another kind",
+            BRANCH,
+            SWITCHED,
+            b"journal 2\nb\n",
+            b"",
+            b"line 1",
+        ),
+        (
+            "a carriage return",
+            BRANCH,
+            SWITCHED,
+            b"journal 1\r\nb\n",
+            b"",
+            b"line 1",
+        ),
+        (
+            "no line feed",
+            BRANCH,
+            SWITCHED,
+            b"journal 1",
+            b"",
+            b"line 1",
+        ),
+        (
+            "a header alone",
+            BRANCH,
+            SWITCHED,
+            b"journal 1\n",
+            b"",
+            b"line 2",
+        ),
+        (
+            "upper case",
+            BRANCH,
+            SWITCHED,
+            b"journal 1\nb\nw\na 0 0F1F440000\n",
+            begins,
+            b"line 4",
+        ),
+        (
+            "ten bytes",
+            BRANCH,
+            SWITCHED,
+            b"journal 1\nb\na 0 0f1f4400000f1f440000\n",
+            begins,
+            b"line 3",
+        ),
+        (
+            "processor 16",
+            BRANCH,
+            SWITCHED,
+            b"journal 1\nb\nw\nt 16\n",
+            begins,
+            b"line 4",
+        ),
+        (
+            "a leading zero",
+            BRANCH,
+            SWITCHED,
+            b"journal 1\nb\nw\ns\nt 00\n",
+            begins,
+            b"line 5",
+        ),
+        (
+            "no line feed at the end",
+            BRANCH,
+            SWITCHED,
+            b"journal 1\nb\nw",
+            begins,
+            b"line 3",
+        ),
     ];
     for (name, small, script, journal, printed, line) in rows {
         let mut reported = Vec::from_slice(rt.alloc(), b"textpoke: journal: ")?;
@@ -111,7 +218,14 @@ fn a_journal_is_cut_at_each_byte(rt: HostRuntime) -> Result<(), Fail> {
             }
         }
         let reported = format!(in rt.alloc(); "textpoke: journal: line {}\n", whole + 1)?;
-        replays(&rt, "cut", &BRANCH, SWITCHED, cut, (4, &printed, reported.as_bytes()))?;
+        replays(
+            &rt,
+            "cut",
+            &BRANCH,
+            SWITCHED,
+            cut,
+            (4, &printed, reported.as_bytes()),
+        )?;
     }
     Ok(())
 }

@@ -10,8 +10,7 @@ use std::test::Fail;
 const RUN: &[&str] = &["run", "m", "s", "j", "7"];
 
 /// What four turns of one processor print.
-const FOUR_TURNS: &[u8] =
-    b"0 401000 nop\n0 out 10 01\n0 done\nsite 401000 jump 0f1f440000\n";
+const FOUR_TURNS: &[u8] = b"0 401000 nop\n0 out 10 01\n0 done\nsite 401000 jump 0f1f440000\n";
 
 /// Their journal.
 const FOUR_TURNS_JOURNAL: &[u8] = b"journal 1\na 0 0f1f440000\np 0\np 0\np 0\n";
@@ -77,7 +76,13 @@ fn each_call_fails_in_turn(rt: HostRuntime) -> Result<(), Fail> {
         (4, 6, b"", write, b"journ"),
         (5, 6, b"", write, b"journal 1\na 0 0f1"),
         (6, 6, b"0 4010", write, b"journal 1\na 0 0f1f440000\n"),
-        (7, 6, b"0 401000 nop\n", write, b"journal 1\na 0 0f1f440000\np "),
+        (
+            7,
+            6,
+            b"0 401000 nop\n",
+            write,
+            b"journal 1\na 0 0f1f440000\np ",
+        ),
         (
             8,
             6,
@@ -117,7 +122,13 @@ fn a_halted_processor_takes_every_request(rt: HostRuntime) -> Result<(), Fail> {
     let mut host = MemoryHost::new(rt.alloc());
     host.put("m", &traced_300(rt.alloc())?)?;
     host.put("s", b"cpu h\nrun 1\ntrace *\n")?;
-    let list = [String::from_str(rt.alloc(), "run")?, String::from_str(rt.alloc(), "m")?, String::from_str(rt.alloc(), "s")?, String::from_str(rt.alloc(), "j")?, String::from_str(rt.alloc(), "1")?];
+    let list = [
+        String::from_str(rt.alloc(), "run")?,
+        String::from_str(rt.alloc(), "m")?,
+        String::from_str(rt.alloc(), "s")?,
+        String::from_str(rt.alloc(), "j")?,
+        String::from_str(rt.alloc(), "1")?,
+    ];
     assert_eq!(rt; poke_tool::textpoke(rt.alloc(), &list, &mut host), 0);
     let begins = b"0 halt\nupdate 1 begin 300\nupdate 1 done 300\nsite 401001 trace e8faffffff\n";
     assert!(rt; host.printed().starts_with(begins));
@@ -148,8 +159,16 @@ fn nothing_is_made_before_all_is_accepted(rt: HostRuntime) -> Result<(), Fail> {
         (&["replay", "m", "s"], 1, words),
         (&["bench", "9", "1"], 1, words),
         (&["bench", "10", "-1"], 1, words),
-        (&["run", "m", "m", "j", "1"], 3, b"textpoke: script: line 1: Word\n"),
-        (&["run", "s", "s", "j", "1"], 2, b"textpoke: module: Short c\n"),
+        (
+            &["run", "m", "m", "j", "1"],
+            3,
+            b"textpoke: script: line 1: Word\n",
+        ),
+        (
+            &["run", "s", "s", "j", "1"],
+            2,
+            b"textpoke: module: Short c\n",
+        ),
     ];
     for (list, status, reported) in rows {
         let mut host = host_with(&rt, &BRANCH, b"cpu f\nrun 4\n")?;
