@@ -30,24 +30,21 @@ use Rattle.switching.proofs.ChoiceBound.{sum_more}
 use Rattle.script_runner.specs.declared.acted.Acted.{Acted}
 use Rattle.script_runner.specs.declared.acted.Acted.TheVariants as acted
 use Rattle.script_runner.specs.Operations.{Operation, is_hit, operation_of, operations, operations_of}
-use Rattle.script_runner.specs.Operations.Operation.{Hits, DropsAt}
-use Rattle.recorded_run.specs.Shown.{dropped_by}
-use Rattle.recorded_run.specs.Trace.{place_of, places}
+use Rattle.script_runner.specs.Operations.Operation.{Hits}
+use Rattle.tracer_ops.specs.Meaning.{Meaning}
+use Rattle.recorded_run.specs.Fed.{fed, handed}
+use Rattle.recorded_run.specs.Shown.{dropped_by, place_of, places}
+use Rattle.recorded_run.specs.Stepping.{Feeds, Tracing}
+use Rattle.recorded_run.proofs.Feeding.{answers_length, drops_of, fed_drops}
 
 -- ---- what is answered of an event tells what it dropped
 
-drops_of : Operation → List ℕ
-drops_of (Hits cpu site) = []
-drops_of (DropsAt place) = place ∷ []
-
 acted_drops : (did : Acted) → dropped_by did ≡ flat_map drops_of (operations_of did)
-unfolding drops_of
 acted_drops acted.Plain = refl
 acted_drops (acted.Hit cpu site) = refl
 acted_drops (acted.Drop place) = refl
 
 line_drops : (m : Module) (l : TraceLine) → place_of l ≡ flat_map drops_of (operation_of m l)
-unfolding drops_of
 line_drops m (Opens update sites) = refl
 line_drops m (Ends update ending) = refl
 line_drops m (Drops place) = refl
@@ -70,6 +67,14 @@ lines_drop m (l ∷ ls) =
 pub acted_places : (m : Module) (ls : List TraceLine) (did : Acted) → operations_of did ≡ operations m ls → dropped_by did ≡ places ls
 acted_places m ls did same =
     acted_drops did ∙ ap (λ (os : List Operation). flat_map drops_of os) same ∙ sym (lines_drop m ls)
+
+-- there is an answer for each place of the lines
+pub drops_many : (m : Module) (ls : List TraceLine) (tracers : List Meaning) (t : Tracing) → Feeds (fed (handed tracers) (operations m ls)) t → length t.drops ≡ length (places ls)
+drops_many m ls tracers t h =
+    let answered = answers_length (fed (handed tracers) (operations m ls)).drops t.drops h.drops in
+    let many = fed_drops (handed tracers) (operations m ls) in
+    let same = ap length (lines_drop m ls) in
+    omega (arith, answered, many, same)
 
 -- ---- what drops no tracer
 

@@ -4,12 +4,16 @@ use Rattle.std.specs.List.{flat_map}
 use Rattle.std.proofs.lemmas.Grind.{flat_map-append}
 use Rattle.module_image.specs.Module.{Module}
 use Rattle.run_journal.specs.declared.event.Event.{Event}
+use Rattle.script_runner.specs.Operations.{Operation, operation_of, operations}
 use Rattle.script_runner.specs.TraceText.{line_text}
 use Rattle.switching.specs.Journal.{IsLegalSoFar, after, lines}
 use Rattle.switching.specs.Next.{next}
 use Rattle.switching.specs.Said.{TraceLine, said}
 use Rattle.switching.specs.State.{State}
-use Rattle.recorded_run.specs.Trace.{event_text, events_text, place_of, places}
+use Rattle.tracer_ops.specs.Meaning.{Meaning}
+use Rattle.recorded_run.specs.Fed.{Fed, fed, fed_events, handed}
+use Rattle.recorded_run.specs.Trace.{event_text, events_text}
+use Rattle.recorded_run.proofs.Feeding.{fed-append}
 
 -- the lines of events, and then those of one more
 pub lines_push : (m : Module) (s : State) (events : List Event) (e : Event) → lines m s (events ++ e ∷ []) ≡ lines m s events ++ said m (after m s events) e
@@ -24,11 +28,17 @@ events_text_push m s events e =
     ap (λ (ls : List TraceLine). flat_map line_text ls) (lines_push m s events e)
     ∙ flat_map-append line_text (lines m s events) (said m (after m s events) e)
 
--- the places at which events drop tracers, and then one more
-pub places_push : (m : Module) (s : State) (events : List Event) (e : Event) → places (lines m s (events ++ e ∷ [])) ≡ places (lines m s events) ++ places (said m (after m s events) e)
-places_push m s events e =
-    ap (λ (ls : List TraceLine). flat_map place_of ls) (lines_push m s events e)
-    ∙ flat_map-append place_of (lines m s events) (said m (after m s events) e)
+-- what lines make of tracers, and then further ones
+fed_push : (m : Module) (f : Fed) (ls earlier later : List TraceLine) → ls ≡ earlier ++ later → fed f (operations m ls) ≡ fed (fed f (operations m earlier)) (operations m later)
+fed_push m f ls earlier later is =
+    ap (λ (xs : List TraceLine). fed f (operations m xs)) is
+    ∙ ap (λ (os : List Operation). fed f os) (flat_map-append (operation_of m) earlier later)
+    ∙ fed-append f (operations m earlier) (operations m later)
+
+-- what events make of tracers, and then one more
+pub fed_events_push : (m : Module) (s : State) (events : List Event) (e : Event) (tracers : List Meaning) → fed_events m s (events ++ e ∷ []) tracers ≡ fed (fed_events m s events tracers) (operations m (said m (after m s events) e))
+fed_events_push m s events e tracers =
+    fed_push m (handed tracers) (lines m s (events ++ e ∷ [])) (lines m s events) (said m (after m s events) e) (lines_push m s events e)
 
 -- the state after two lists of events
 pub after_both : (m : Module) (s : State) (events more : List Event) → after m s (events ++ more) ≡ after m (after m s events) more

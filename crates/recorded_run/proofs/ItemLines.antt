@@ -32,7 +32,7 @@ whole_suc {X = X} (y ∷ ys) zero x there =
     ap (λ (z : X). z ∷ ys) same
 whole_suc {X = X} (y ∷ ys) (suc i) x there = ap (λ (zs : List X). y ∷ zs) (whole_suc ys i x there)
 
-whole : {X : Type 0} (xs : List X) (i : ℕ) (x : X) → slice_get xs i ≡ Some x → (take i xs ++ (x ∷ [])) ++ drop (i + 1) xs ≡ xs
+pub whole : {X : Type 0} (xs : List X) (i : ℕ) (x : X) → slice_get xs i ≡ Some x → (take i xs ++ (x ∷ [])) ++ drop (i + 1) xs ≡ xs
 whole {X = X} xs i x there =
     let next : i + 1 ≡ suc i = omega arith in
     ap (λ (n : ℕ). (take i xs ++ (x ∷ [])) ++ drop n xs) next ∙ whole_suc xs i x there

@@ -11,18 +11,20 @@ use Rattle.run_journal.specs.Reading.{IsBad, ReadsEnd, at_start}
 use Rattle.run_journal.specs.Spelling.{journal}
 use Rattle.run_journal.proofs.Journals.{ends_are_one, events_are_one, journals_are_apart, journals_are_read}
 use Rattle.script_runner.proofs.Reaching.{reached_next}
+use Rattle.script_runner.specs.Operations.{operations}
 use Rattle.script_text.specs.Laws.{IsScriptOf}
 use Rattle.script_text.specs.Script.{ScriptValue}
-use Rattle.switching.specs.Journal.{IsFinished, IsLegal, IsLegalSoFar, after}
+use Rattle.switching.specs.Journal.{IsFinished, IsLegal, IsLegalSoFar, after, lines}
 use Rattle.switching.specs.Laws.{IsReached}
 use Rattle.switching.specs.May.{May}
 use Rattle.switching.specs.Next.{next}
 use Rattle.switching.specs.State.{State, first}
-use Rattle.recorded_run.specs.Laws.{LegalJournalsAreReplayed, ReplaysAreOne, RunsAreReplayed}
+use Rattle.recorded_run.specs.Laws.{LegalJournalsAreReplayed, ReplaysAreOne, RunsAreReplayed, TalliesAreOne}
 use Rattle.recorded_run.specs.Replaying.{IsMissing, IsNoNext, IsRefusedAt, IsRefusedNext, IsReplayed}
 use Rattle.recorded_run.proofs.Events.{after_both, legal_after}
 use Rattle.recorded_run.proofs.HasLine.{may_has_line}
 use Rattle.recorded_run.proofs.Readings.{ReadsRest, reads_rest}
+use Rattle.recorded_run.proofs.Tallies.{tallies_one}
 
 -- each event that may come in its place has a line
 all_have_lines : (m : Module) (s : State) (events : List Event) → IsReached m s → IsLegalSoFar m s events → All HasLine events
@@ -92,3 +94,7 @@ replays_are_one m script text events others h k =
 
 pub runs_are_replayed : RunsAreReplayed
 runs_are_replayed m script seed events accepted of run = legal_replayed m script events accepted of run.legal
+
+pub tallies_are_one : TalliesAreOne
+tallies_are_one m s events tracers text other told is also =
+    tallies_one tracers (operations m (lines m s events)) text other told is also

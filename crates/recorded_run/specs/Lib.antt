@@ -1,5 +1,8 @@
 pub mod Puts
 pub mod Trace
+pub mod Fed
+pub mod Tally
+pub mod Headline
 pub mod Shown
 pub mod Stepping
 pub mod Running

@@ -7,8 +7,13 @@ mod laws;
 mod recording;
 mod replaying;
 mod show;
+mod tracing;
 
 pub use fault::RunFault;
-pub use laws::{legal_journals_are_replayed, replays_are_one, runs_are_replayed};
+pub use laws::{
+    legal_journals_are_replayed, legal_runs_are_whole, replays_are_one, runs_are_replayed,
+    tallies_are_one,
+};
 pub use recording::run;
 pub use replaying::replay;
+pub use tracing::Dropped;

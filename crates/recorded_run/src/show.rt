@@ -1,15 +1,10 @@
 //! Doing one event, and showing what it shows.
-ghost use Rattle.std.specs.Prelude.{◌≡◌, ◌++◌, ◌+◌, ◌≤◌, length};
 ghost use Rattle.poke_base.specs.Host.{Prints};
-ghost use Rattle.recorded_run.specs.Shown.{Shows, dropped_by};
+ghost use Rattle.recorded_run.specs.Shown.{Shows};
 
-use arrayvec::ArrayVec;
 use poke_base::{Host, Line, WriteFail};
 use run_journal::Event;
 use script_runner::{Acted, World};
-
-/// The places at which a run dropped tracers, in order; a script has at most 64 drops.
-pub type Dropped = ArrayVec<u8, 64>;
 
 /// Does an event, and prints what it shows as one piece, if it shows anything. `None` exactly where the event may not come;
 /// nothing is done then.
@@ -41,14 +36,4 @@ fn print_any<H: Host>(piece: &[u8], host: &mut H) -> Result<(), WriteFail>
         return Ok(());
     }
     host.print(piece)
-}
-
-/// Keeps the place at which an event dropped a tracer, if it did. There has to be room for it.
-pub fn keep_dropped(acted: &Acted, dropped: &mut Dropped)
-    requires { length dropped.old.items + length (dropped_by acted.now) ≤ 64 }
-    ensures { dropped.new.items ≡ dropped.old.items ++ dropped_by acted.now }
-{
-    if let Acted::Drop { place } = *acted {
-        dropped.push(place);
-    }
 }
