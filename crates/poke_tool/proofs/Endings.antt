@@ -5,18 +5,20 @@ use Rattle.poke_base.specs.declared.host.AskedBy.TheVariants.{Read as AskedRead,
 use Rattle.poke_base.specs.Host.{Files, Outside, Rose, Tells, Adds, with_file, with_more}
 use Rattle.poke_base.specs.Text.{IsPrefix}
 use Rattle.poke_base.proofs.Outsides.{Tells-no_more, Tells-same, Tells-trans}
+use Rattle.tracer_ops.specs.Meaning.{Meaning}
 use Rattle.poke_tool.specs.declared.fault.Fault.{Fault}
 use Rattle.poke_tool.specs.declared.fault.Fault.TheVariants.{Words, Refused, Read, Write, Memory}
 use Rattle.poke_tool.specs.declared.fault.Refusal.{Refusal}
-use Rattle.poke_tool.specs.declared.fault.Refusal.TheVariants.{Module, Plan, Script}
+use Rattle.poke_tool.specs.declared.fault.Refusal.TheVariants.{Module, Plan, Script, Journal}
 use Rattle.poke_tool.specs.Command as command
 use Rattle.poke_tool.specs.Command.{Row, file_words}
 use Rattle.poke_tool.specs.Fault.{status_of, complaint_of, refusal_status}
-use Rattle.poke_tool.specs.Runs.{Concludes, Cuts, DoesNamed, DoesSaying, Ends, FailsReading, FailsWriting, IsRead, LeavesAll, MadePart, MadeWhole, MakesNothing, MakesPrefix, RunsRow, SaysSomething}
-use Rattle.poke_tool.specs.Saying.{IsModuleOf, MakeSays, Saying, Says, refused_status, saying_status, told_before, where_told}
-use Rattle.poke_tool.specs.Endings.{AsksInOrder, EndsAloud, EndsMaking, EndsRefused, EndsSaying, Reported}
+use Rattle.poke_tool.specs.RunCuts.{CutsRun, StopsBetween, StopsEarly}
+use Rattle.poke_tool.specs.Runs.{Concludes, Coupled, Cuts, DoesNamed, DoesSaying, Ends, FailsReading, FailsWriting, IsRead, LeavesAll, MadePart, MadeWhole, MakesNothing, MakesPrefix, RunsRow}
+use Rattle.poke_tool.specs.Saying.{IsModuleOf, MakeSays, Saying, Says, no_tracers, refused_status, saying_status, told_before, where_told}
+use Rattle.poke_tool.specs.Endings.{AsksInOrder, EndsAloud, EndsMaking, EndsRefused, EndsSaying, MayBeCut, Reported}
 use Rattle.poke_tool.proofs.Asking.{LeavesAll-trans, MakesNothing-trans, added_later}
-use Rattle.poke_tool.proofs.Sayings.{begins_alike, says_alike, says_less, says_plain}
+use Rattle.poke_tool.proofs.Sayings.{IsLineOf, begins_less, cut_refused, says_alike, says_less, says_plain}
 
 -- what a report leaves, or nothing
 record Settles (middle new : Outside) : Type 0 where
@@ -66,14 +68,66 @@ part_settled (Some file) old middle new nothing made = record { part = made.part
     files (inr made) = inr (Tells-trans _ middle.files new.files made nothing.files)
 
 -- what was cut before a report
+run_settled : (name : List ℕ) (tracers : List Meaning) (s : Saying) (old middle new : Outside) → LeavesAll middle new → CutsRun name tracers s old middle → CutsRun name tracers s old new
+run_settled name tracers s old middle new leaves cuts = record {
+  m = cuts.m;
+  start = cuts.start;
+  events = cuts.events;
+  tally = cuts.tally;
+  is_tally = cuts.is_tally;
+  text_is = cuts.text_is;
+  makes_is = cuts.makes_is;
+  stops = later cuts.stops;
+}
+  where
+    files_later : (part : List ℕ) → Tells old.files middle.files ⊎ Tells (with_file old.files name part) middle.files → Tells old.files new.files ⊎ Tells (with_file old.files name part) new.files
+    files_later part (inl same) = inl (Tells-trans old.files middle.files new.files same leaves.nothing.files)
+    files_later part (inr made) = inr (Tells-trans _ middle.files new.files made leaves.nothing.files)
+
+    later : StopsEarly name old middle ⊎ StopsBetween cuts.m cuts.start cuts.events tracers name old middle → StopsEarly name old new ⊎ StopsBetween cuts.m cuts.start cuts.events tracers name old new
+    later (inl early) = inl (record {
+      part = early.part;
+      prefix = early.prefix;
+      files = files_later early.part early.files;
+      printed = Tells-trans old.printed middle.printed new.printed early.printed leaves.printed;
+    })
+    later (inr between) = inr (record {
+      done = between.done;
+      rest = between.rest;
+      whole = between.whole;
+      filed = between.filed;
+      next = between.next;
+      text = between.text;
+      filed_prefix = between.filed_prefix;
+      is_next = between.is_next;
+      text_prefix = between.text_prefix;
+      in_order = between.in_order;
+      files = Tells-trans _ middle.files new.files between.files leaves.nothing.files;
+      printed = Tells-trans _ middle.printed new.printed between.printed leaves.printed;
+    })
+
+coupled_settled : (row : Row) (s : Saying) (old middle new : Outside) → LeavesAll middle new → Coupled row s old middle → Coupled row s old new
+coupled_settled (command.Plan file) s old middle new leaves coupled = tt
+coupled_settled (command.Show file) s old middle new leaves coupled = tt
+coupled_settled (command.Check file) s old middle new leaves coupled = tt
+coupled_settled (command.Make n file) s old middle new leaves coupled = tt
+coupled_settled (command.Wants module_file script_file) s old middle new leaves coupled = tt
+coupled_settled (command.Run module_file script_file journal_file seed) s old middle new leaves coupled =
+    run_settled journal_file no_tracers s old middle new leaves coupled
+coupled_settled (command.Replay module_file script_file journal_file) s old middle new leaves coupled = tt
+coupled_settled (command.Bench n seed) s old middle new leaves coupled = tt
+
 cuts_settled : (row : Row) (s : Saying) (old middle new : Outside) → LeavesAll middle new → Cuts row s old middle → Cuts row s old new
 cuts_settled row s old middle new leaves cuts = record {
-  printed = record {
-    part = cuts.printed.part;
-    prefix = cuts.printed.prefix;
-    printed = Tells-trans _ middle.printed new.printed cuts.printed.printed leaves.printed;
+  part = record {
+    printed = record {
+      part = cuts.part.printed.part;
+      prefix = cuts.part.printed.prefix;
+      printed = Tells-trans _ middle.printed new.printed cuts.part.printed.printed leaves.printed;
+    };
+    made = part_settled s.makes old middle new leaves.nothing cuts.part.made;
   };
-  made = part_settled s.makes old middle new leaves.nothing cuts.made;
+  coupled = coupled_settled row s old middle new leaves cuts.coupled;
 }
 
 -- a command that was done or refused before a report
@@ -96,7 +150,7 @@ does_settled row names old middle new (Err (Refused why)) h does = concludes_set
 does_settled row names old middle new (Err Write) h does = record {
   rose = subst (λ (n : ℕ). Rose old.write_faults n) (sym h.write_faults) does.rose;
   saying = does.saying;
-  says = says_less row (told_before old middle) (told_before old new) does.saying (told_less old.files middle.files new.files h.leaves.nothing.files) does.says;
+  says = begins_less row (told_before old middle) (told_before old new) does.saying (told_less old.files middle.files new.files h.leaves.nothing.files) does.says;
   begins = does.begins;
   asks = does.asks;
   cuts = cuts_settled row does.saying old middle new h.leaves does.cuts;
@@ -176,11 +230,13 @@ refusal_low : (why : Refusal) → 2 ≤ refusal_status why
 refusal_low (Module why) = lit≤ tt
 refusal_low (Plan why) = lit≤ tt
 refusal_low (Script why) = lit≤ tt
+refusal_low (Journal why) = lit≤ tt
 
 refusal_high : (why : Refusal) → refusal_status why ≤ 4
 refusal_high (Module why) = lit≤ tt
 refusal_high (Plan why) = lit≤ tt
 refusal_high (Script why) = lit≤ tt
+refusal_high (Journal why) = lit≤ tt
 
 -- what a command did, by the status
 at_0 : (row : Row) (names : ℕ) (old new : Outside) (result : Result (Unit {0}) Fault) → answer_status result ≡ 0 → DoesNamed row names old new result → Concludes row names old new None
@@ -242,31 +298,61 @@ prints_none old new text none printed =
     subst (λ (o : Option (List ℕ)). Tells o new.printed) (more_none old.printed)
     (subst (λ (t : List ℕ). Tells (with_more old.printed t) new.printed) none printed)
 
+-- to make nothing is to leave the files
+unmade : (s : Saying) (old new : Outside) → s.makes ≡ None → DoesSaying s old new → MakesNothing old new
+unmade s old new none does = subst (λ (m : Option (List ℕ × List ℕ)). MadeWhole m old new) none does.made
+
 -- to print nothing and to make nothing is to leave all
-silent_leaves : (s : Saying) (old new : Outside) → (s.text ≡ []) × (s.makes ≡ None) → DoesSaying s old new → LeavesAll old new
-silent_leaves s old new silent does = record {
-  printed = prints_none old new s.text silent.0 does.printed;
-  nothing = subst (λ (m : Option (List ℕ × List ℕ)). MadeWhole m old new) silent.1 does.made;
+silent_leaves : (s : Saying) (old new : Outside) → s.text ≡ [] → s.makes ≡ None → DoesSaying s old new → LeavesAll old new
+silent_leaves s old new silent none does = record {
+  printed = prints_none old new s.text silent does.printed;
+  nothing = unmade s old new none does;
 }
 
--- but at the statuses 0 and 6 a command leaves all as it was
-command_leaves : (row : Row) (names : ℕ) (old new : Outside) (result : Result (Unit {0}) Fault) → answer_status result ≢ 0 → answer_status result ≢ 6 → DoesNamed row names old new result → LeavesAll old new
-command_leaves row names old new (Ok done) not_0 not_6 does = absurd (not_0 refl)
-command_leaves row names old new (Err Words) not_0 not_6 does = absurd does
-command_leaves row names old new (Err (Refused why)) not_0 not_6 does =
-    silent_leaves does.saying old new (says_plain row (told_before old new) does.saying why does.says does.refused_is) does.does
-command_leaves row names old new (Err Read) not_0 not_6 does = does.leaves
-command_leaves row names old new (Err Write) not_0 not_6 does = absurd (not_6 refl)
-command_leaves row names old new (Err Memory) not_0 not_6 does = does.leaves
+-- but at the statuses 0, 4 and 6 a command leaves all as it was
+command_leaves : (row : Row) (names : ℕ) (old new : Outside) (result : Result (Unit {0}) Fault) → answer_status result ≢ 0 → answer_status result ≢ 4 → answer_status result ≢ 6 → DoesNamed row names old new result → LeavesAll old new
+command_leaves row names old new (Ok done) not_0 not_4 not_6 does = absurd (not_0 refl)
+command_leaves row names old new (Err Words) not_0 not_4 not_6 does = absurd does
+command_leaves row names old new (Err (Refused why)) not_0 not_4 not_6 does =
+    let plain = says_plain row (told_before old new) does.saying why does.says does.refused_is in
+    by plain.0 plain.1
+  where
+    by : (does.saying.text ≡ []) ⊎ IsLineOf row why → does.saying.makes ≡ None → LeavesAll old new
+    by (inl silent) none = silent_leaves does.saying old new silent none does.does
+    by (inr (replay, (line, is))) none = absurd (not_4 (ap refusal_status is))
+command_leaves row names old new (Err Read) not_0 not_4 not_6 does = does.leaves
+command_leaves row names old new (Err Write) not_0 not_4 not_6 does = absurd (not_6 refl)
+command_leaves row names old new (Err Memory) not_0 not_4 not_6 does = does.leaves
 
--- but at the statuses 0 and 6 all is left as it was
-pub leaves_all : (row : Option Row) (old new : Outside) (status : ℕ) → RunsRow row old new status → status ≢ 0 → status ≢ 6 → LeavesAll old new
-leaves_all None old new status runs not_0 not_6 =
+-- and but at 0 and 6 it makes no file
+command_makes : (row : Row) (names : ℕ) (old new : Outside) (result : Result (Unit {0}) Fault) → answer_status result ≢ 0 → answer_status result ≢ 6 → DoesNamed row names old new result → MakesNothing old new
+command_makes row names old new (Ok done) not_0 not_6 does = absurd (not_0 refl)
+command_makes row names old new (Err Words) not_0 not_6 does = absurd does
+command_makes row names old new (Err (Refused why)) not_0 not_6 does =
+    unmade does.saying old new (says_plain row (told_before old new) does.saying why does.says does.refused_is).1 does.does
+command_makes row names old new (Err Read) not_0 not_6 does = does.leaves.nothing
+command_makes row names old new (Err Write) not_0 not_6 does = absurd (not_6 refl)
+command_makes row names old new (Err Memory) not_0 not_6 does = does.leaves.nothing
+
+-- words that are no command leave all
+no_row_leaves : (old new : Outside) (status : ℕ) → RunsRow None old new status → LeavesAll old new
+no_row_leaves old new status runs =
     let reports = (rw (runs.does.1, runs.does.0) at runs.ends).1.1 in
     record { printed = reports.printed; nothing = record { files = reports.files; making = reports.making } }
-leaves_all (Some row) old new status runs not_0 not_6 =
+
+-- but at the statuses 0, 4 and 6 all is left as it was
+pub leaves_all : (row : Option Row) (old new : Outside) (status : ℕ) → RunsRow row old new status → status ≢ 0 → status ≢ 4 → status ≢ 6 → LeavesAll old new
+leaves_all None old new status runs not_0 not_4 not_6 = no_row_leaves old new status runs
+leaves_all (Some row) old new status runs not_0 not_4 not_6 =
     let e = ended row old new status runs in
-    command_leaves row e.names old new e.result (λ z. not_0 (e.is ∙ z)) (λ z. not_6 (e.is ∙ z)) e.does
+    command_leaves row e.names old new e.result (λ z. not_0 (e.is ∙ z)) (λ z. not_4 (e.is ∙ z)) (λ z. not_6 (e.is ∙ z)) e.does
+
+-- and but at 0 and 6 no file was made
+pub makes_nothing : (row : Option Row) (old new : Outside) (status : ℕ) → RunsRow row old new status → status ≢ 0 → status ≢ 6 → MakesNothing old new
+makes_nothing None old new status runs not_0 not_6 = (no_row_leaves old new status runs).nothing
+makes_nothing (Some row) old new status runs not_0 not_6 =
+    let e = ended row old new status runs in
+    command_makes row e.names old new e.result (λ z. not_0 (e.is ∙ z)) (λ z. not_6 (e.is ∙ z)) e.does
 
 -- the file words are asked for from left to right, and no other file is
 pub asks_in_order : (row : Option Row) (old new : Outside) (status : ℕ) → RunsRow row old new status → AsksInOrder row old new status
@@ -306,7 +392,7 @@ ends_aloud (Some row) old new status runs =
     aloud (Err fault) is reports = inr (fault, reports)
 
 -- what is to be refused is refused
-refuses_said : (row : Row) (names : ℕ) (old new : Outside) (s : Saying) (why : Refusal) (result : Result (Unit {0}) Fault) → IsSome (told_before old new) → Says row (told_before old new) s → s.refused ≡ Some why → DoesNamed row names old new result → (answer_status result ≡ refusal_status why) ⊎ (answer_status result ≡ 5) ⊎ (answer_status result ≡ 7) ⊎ ((answer_status result ≡ 6) × SaysSomething s)
+refuses_said : (row : Row) (names : ℕ) (old new : Outside) (s : Saying) (why : Refusal) (result : Result (Unit {0}) Fault) → IsSome (told_before old new) → Says row (told_before old new) s → s.refused ≡ Some why → DoesNamed row names old new result → (answer_status result ≡ refusal_status why) ⊎ (answer_status result ≡ 5) ⊎ (answer_status result ≡ 7) ⊎ ((answer_status result ≡ 6) × MayBeCut s why)
 refuses_said row names old new s why (Ok done) some says refused does =
     let same = says_alike row (told_before old new) does.saying s some does.says says in
     absurd (let low = refusal_low why in let done_is = ap refused_status does.refused_is in let why_is = ap refused_status refused in omega arith)
@@ -315,19 +401,7 @@ refuses_said row names old new s why (Err (Refused other)) some says refused doe
     inl (sym (ap refused_status does.refused_is) ∙ says_alike row (told_before old new) does.saying s some does.says says ∙ ap refused_status refused)
 refuses_said row names old new s why (Err Read) some says refused does = inr (inl refl)
 refuses_said row names old new s why (Err Write) some says refused does =
-    inr (inr (inr (refl, begun (refused_other does.saying.refused refl))))
-  where
-    -- the saying of the failed write is refused too
-    refused_other : (o : Option Refusal) → does.saying.refused ≡ o → (other : Refusal) × (does.saying.refused ≡ Some other)
-    refused_other None is =
-        let same = says_alike row (told_before old new) does.saying s some does.says says in
-        absurd (let low = refusal_low why in let none_is = ap refused_status is in let why_is = ap refused_status refused in omega arith)
-    refused_other (Some other) is = (other, is)
-
-    begun : (other : Refusal) × (does.saying.refused ≡ Some other) → SaysSomething s
-    begun (other, is) =
-        begins_alike row (told_before old new) does.saying s other some does.says says is
-        (does.begins (subst (λ (o : Option Refusal). IsSome o) (sym is) refl))
+    inr (inr (inr (refl, cut_refused row (told_before old new) s does.saying why some does.says does.begins says refused)))
 refuses_said row names old new s why (Err Memory) some says refused does = inr (inr (inl refl))
 
 -- where nothing fails, the status is what the files say
@@ -364,7 +438,7 @@ ends_saying row old new status runs =
           at_refused row e.names old new status e.result (sym e.is) range.0 range.1 e.does e.reports;
       cut = λ six. let did = at_6 row e.names old new e.result (sym e.is ∙ six) e.does in (did.saying, did.says, did.cuts);
       refuses = λ s why some says refused.
-          subst (λ (n : ℕ). (n ≡ refusal_status why) ⊎ (n ≡ 5) ⊎ (n ≡ 7) ⊎ ((n ≡ 6) × SaysSomething s)) (sym e.is) (refuses_said row e.names old new s why e.result some says refused e.does);
+          subst (λ (n : ℕ). (n ≡ refusal_status why) ⊎ (n ≡ 5) ⊎ (n ≡ 7) ⊎ ((n ≡ 6) × MayBeCut s why)) (sym e.is) (refuses_said row e.names old new s why e.result some says refused e.does);
       complete = λ s some says no_read no_write.
           subst (λ (n : ℕ). (n ≡ saying_status s) ⊎ (n ≡ 7)) (sym e.is) (complete_said row e.names old new s e.result some says no_read no_write e.does);
       accepts = λ some none no_read no_write.
@@ -422,10 +496,10 @@ make_ends n name names old new (Err (Refused why)) status is does =
 make_ends n name names old new (Err Read) status is does = absurd (make_reads_none n name names does.is_read)
 make_ends n name names old new (Err Write) status is does = record {
   done = λ zero_is. absurd (omega arith);
-  cut = λ six. part_of n name old new does.saying does.says does.cuts.made;
+  cut = λ six. part_of n name old new does.saying does.says does.cuts.part.made;
   memory = λ seven. absurd (omega arith);
   only = inr (inl is);
-  prints_nothing = part_none old new does.saying.text does.cuts.printed.part (ap (λ (x : Saying). x.text) does.says.2) does.cuts.printed.prefix does.cuts.printed.printed;
+  prints_nothing = part_none old new does.saying.text does.cuts.part.printed.part (ap (λ (x : Saying). x.text) does.says.2) does.cuts.part.printed.prefix does.cuts.part.printed.printed;
 }
 make_ends n name names old new (Err Memory) status is does = record {
   done = λ zero_is. absurd (omega arith);

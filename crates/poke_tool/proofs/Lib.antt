@@ -1,6 +1,7 @@
 pub mod Asking
 pub mod Ways
 pub mod TwoFiles
+pub mod SameModules
 pub mod Sayings
 pub mod Endings
 pub mod PlanLines
@@ -9,3 +10,7 @@ pub mod TableLines
 pub mod ItemLines
 pub mod OutcomeLines
 pub mod ScriptUpdates
+pub mod SomeTally
+pub mod ThreeFiles
+pub mod RunWays
+pub mod Headlines

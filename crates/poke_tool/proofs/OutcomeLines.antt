@@ -1,25 +1,14 @@
 -- The lines of outcomes are printed outcome by outcome, and what a script's updates leave.
-use Rattle.std.proofs.Common.{◌≡◌, ◌<◌, ◌≤◌, ◌+◌, ◌∙◌, ℕ, List, [], ◌∷◌, ◌++◌, length, map, take, drop, Some, Ok, Err, refl, sym, ap, subst, arith, append-nil, append_assoc}
-use Rattle.std.specs.List.{flat_map, slice_get}
-use Rattle.std.proofs.lemmas.Grind.{flat_map-append}
+use Rattle.std.proofs.Common.{◌≡◌, ◌<◌, ◌≤◌, ◌+◌, ◌∙◌, ℕ, List, [], ◌∷◌, ◌++◌, length, map, take, drop, Some, Ok, Err, sym, ap, subst, arith, append-nil, append_assoc}
+use Rattle.std.specs.List.{slice_get}
 use Rattle.std.proofs.lemmas.List.{length-map, length-take-le, map-append, take-append-drop, take_all}
 use Rattle.poke_base.specs.declared.host.WriteFail.{WriteFail}
 use Rattle.poke_base.specs.Host.{Outside, Prints}
 use Rattle.poke_base.proofs.Outsides.{Prints-more, Prints-part}
 use Rattle.key_state.specs.declared.outcome.Outcome.{Outcome}
-use Rattle.key_state.specs.Outcome.{Ending, HoldsWanted, ending_of, outcome, outcomes, settled, states_after}
+use Rattle.key_state.specs.Outcome.{Ending, ending_of}
 use Rattle.key_state.specs.OutcomeLine.{outcome_line}
-use Rattle.key_state.specs.Settled.{IsSettledOf, SettledState}
-use Rattle.key_state.proofs.Going.{outcomes_on}
-use Rattle.module_image.specs.declared.command.Command.{Command}
-use Rattle.module_image.specs.Held.{first_states}
-use Rattle.module_image.specs.Module.{Module, States}
-use Rattle.script_text.specs.declared.script.ScriptStep.{ScriptStep}
-use Rattle.script_text.specs.declared.script.ScriptStep.TheVariants.{Update, Run, Drop}
-use Rattle.script_text.specs.Commands.{command_of, commands}
-use Rattle.script_text.specs.Script.{ScriptValue, all_updates}
-use Rattle.module_image.specs.SiteLine.{site_lines}
-use Rattle.poke_tool.specs.Wants.{IsWantsText, last_states, outcome_lines, script_outcomes}
+use Rattle.poke_tool.specs.Wants.{outcome_lines}
 use Rattle.poke_tool.proofs.ItemLines.{take_more}
 
 -- the lines of some outcomes and then of more

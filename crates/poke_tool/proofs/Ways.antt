@@ -14,10 +14,10 @@ use Rattle.poke_tool.specs.declared.fault.Refusal.TheVariants.{Module as ModuleR
 use Rattle.module_image.specs.Module.{Module}
 use Rattle.poke_tool.specs.Check.{RefusesAsModule}
 use Rattle.poke_tool.specs.Command.{Row, file_words}
-use Rattle.poke_tool.specs.Runs.{AsksFirst, Asks, Does, IsRead, MakesPrefix, ReadsInput, ReadsNone}
+use Rattle.poke_tool.specs.Runs.{AsksFirst, Asks, Coupled, Does, IsRead, MakesPrefix, ReadsInput, ReadsNone}
 use Rattle.poke_tool.specs.Script.{RefusesAsScript}
 use Rattle.script_text.specs.Script.{ScriptValue}
-use Rattle.poke_tool.specs.Saying.{Holds, ModuleSays, Saying, ScriptSays, Says, says_file, says_text, refuses, told_before}
+use Rattle.poke_tool.specs.Saying.{Begins, Holds, ModuleSays, Saying, ScriptSays, Says, says_file, says_text, refuses, told_before}
 use Rattle.poke_tool.proofs.Asking.{Asks-appends, Asks-makes, Asks-more, Asks-prints, Asks-same, HasRead, MakesNothing-trans, added_later, has_read-more, has_read-none, held_before, made_later, made_with, still_told}
 use Rattle.poke_tool.proofs.Sayings.{asks_first}
 
@@ -25,6 +25,11 @@ use Rattle.poke_tool.proofs.Sayings.{asks_first}
 abbrev pub after_write : Result (Unit {0}) WriteFail → Result (Unit {0}) Fault
 after_write (Ok done) = Ok tt
 after_write (Err why) = Err Write
+
+-- a row of which a failed write leaves a part, and no more is said of it
+pub record IsPlainRow (row : Row) (old new : Outside) : Type 0 where
+  pub begins : (s : Saying) → Says row (told_before old new) s → Begins row (told_before old new) s
+  pub coupled : (s : Saying) → Coupled row s old new
 
 -- it is refused for what it has read
 pub refuses_here : (row : Row) (names : ℕ) (old new : Outside) (why : Refusal) → HasRead row names old new → Says row (told_before old new) (refuses names why) → Does row old new (Err (Refused why))
@@ -81,8 +86,8 @@ input_fails row names next name old middle new Is Refuses Words taken is_read as
 input_fails row names next name old middle new Is Refuses Write taken is_read asks_first has reads says asks = absurd reads.input
 
 -- what its files say was printed, or a prefix of it
-pub prints_said : (row : Row) (names : ℕ) (old middle new : Outside) (text : List ℕ) (result : Result (Unit {0}) WriteFail) → names ≡ length (file_words row) → HasRead row names old middle → Prints middle new text result → Says row (told_before old new) (says_text names text) → Does row old new (after_write result)
-prints_said row names old middle new text (Ok done) all has prints says = record {
+pub prints_said : (row : Row) (names : ℕ) (old middle new : Outside) (text : List ℕ) (result : Result (Unit {0}) WriteFail) → names ≡ length (file_words row) → HasRead row names old middle → Prints middle new text result → Says row (told_before old new) (says_text names text) → IsPlainRow row old new → Does row old new (after_write result)
+prints_said row names old middle new text (Ok done) all has prints says plain = record {
   names = names;
   asks = Asks-same _ old middle new has.asks (Asks-prints middle new text (Ok done) prints);
   all = all;
@@ -98,7 +103,7 @@ prints_said row names old middle new text (Ok done) all has prints says = record
     };
   };
 }
-prints_said row names old middle new text (Err why) all has prints says = record {
+prints_said row names old middle new text (Err why) all has prints says plain = record {
   names = names;
   asks = Asks-same _ old middle new has.asks (Asks-prints middle new text (Err why) prints);
   all = tt;
@@ -106,23 +111,26 @@ prints_said row names old middle new text (Err why) all has prints says = record
   does = record {
     rose = Rose-later old.write_faults middle.write_faults new.write_faults has.asks.write_faults prints.failed;
     saying = says_text names text;
-    says = says;
+    says = plain.begins (says_text names text) says;
     begins = λ some. absurd (cc);
     asks = refl;
     cuts = record {
-      printed = record {
-        part = prints.printed.part.0;
-        prefix = prints.printed.part.1;
-        printed = added_later old.printed middle.printed new.printed prints.printed.part.0 has.leaves.printed prints.printed.part.2;
+      part = record {
+        printed = record {
+          part = prints.printed.part.0;
+          prefix = prints.printed.part.1;
+          printed = added_later old.printed middle.printed new.printed prints.printed.part.0 has.leaves.printed prints.printed.part.2;
+        };
+        made = MakesNothing-trans old middle new has.leaves.nothing (record { files = prints.files; making = prints.making });
       };
-      made = MakesNothing-trans old middle new has.leaves.nothing (record { files = prints.files; making = prints.making });
+      coupled = plain.coupled (says_text names text);
     };
   };
 }
 
 -- a write of the file that its files say failed: it is as before, or a prefix of it was written
-makes_part : (row : Row) (names next : ℕ) (old new : Outside) (name bytes : List ℕ) → Asks (take next (file_words row)) old new → (ReadsNone (file_words row) → new.read_faults ≡ old.read_faults) → Tells old.printed new.printed → MakesPrefix old new name bytes → Rose old.write_faults new.write_faults → Says row (told_before old new) (says_file next name bytes) → Does row old new (Err Write)
-makes_part row names next old new name bytes asks reads printed makes rose says = record {
+makes_part : (row : Row) (names next : ℕ) (old new : Outside) (name bytes : List ℕ) → Asks (take next (file_words row)) old new → (ReadsNone (file_words row) → new.read_faults ≡ old.read_faults) → Tells old.printed new.printed → MakesPrefix old new name bytes → Rose old.write_faults new.write_faults → Says row (told_before old new) (says_file next name bytes) → IsPlainRow row old new → Does row old new (Err Write)
+makes_part row names next old new name bytes asks reads printed makes rose says plain = record {
   names = next;
   asks = asks;
   all = tt;
@@ -130,12 +138,15 @@ makes_part row names next old new name bytes asks reads printed makes rose says 
   does = record {
     rose = rose;
     saying = says_file next name bytes;
-    says = says;
+    says = plain.begins (says_file next name bytes) says;
     begins = λ some. absurd (cc);
     asks = refl;
     cuts = record {
-      printed = record { part = []; prefix = refl; printed = Tells-trans _ old.printed new.printed (Tells-no_more old.printed) printed };
-      made = makes;
+      part = record {
+        printed = record { part = []; prefix = refl; printed = Tells-trans _ old.printed new.printed (Tells-no_more old.printed) printed };
+        made = makes;
+      };
+      coupled = plain.coupled (says_file next name bytes);
     };
   };
 }
@@ -147,20 +158,20 @@ made_asks row names next old middle made name result taken has makes =
     (Asks-more (take names (file_words row)) ((name, AskedMake) ∷ []) old middle made has.asks (Asks-makes middle made name result makes))
 
 -- the file that its files say wasn't made
-pub makes_nothing : (row : Row) (names next : ℕ) (old middle new : Outside) (name bytes : List ℕ) (why : WriteFail) → take next (file_words row) ≡ take names (file_words row) ++ (name, AskedMake) ∷ [] → HasRead row names old middle → MakesFile {T = Unit {0}} {E = WriteFail} middle new name (Err why) → Says row (told_before old new) (says_file next name bytes) → Does row old new (Err Write)
-makes_nothing row names next old middle new name bytes why taken has makes says =
+pub makes_nothing : (row : Row) (names next : ℕ) (old middle new : Outside) (name bytes : List ℕ) (why : WriteFail) → take next (file_words row) ≡ take names (file_words row) ++ (name, AskedMake) ∷ [] → HasRead row names old middle → MakesFile {T = Unit {0}} {E = WriteFail} middle new name (Err why) → Says row (told_before old new) (says_file next name bytes) → IsPlainRow row old new → Does row old new (Err Write)
+makes_nothing row names next old middle new name bytes why taken has makes says plain =
     makes_part row names next old new name bytes (made_asks row names next old middle new name (Err why) taken has makes) (λ none. makes.read_faults ∙ has.reads none)
     (Tells-trans old.printed middle.printed new.printed has.leaves.printed makes.printed)
     (record { part = []; prefix = refl; files = left makes.not_made })
-    (Rose-later old.write_faults middle.write_faults new.write_faults has.asks.write_faults makes.failed) says
+    (Rose-later old.write_faults middle.write_faults new.write_faults has.asks.write_faults makes.failed) says plain
   where
     left : Tells middle.files new.files ⊎ Tells (with_file middle.files name []) new.files → Tells old.files new.files ⊎ Tells (with_file old.files name []) new.files
     left (inl same) = inl (Tells-trans old.files middle.files new.files has.leaves.nothing.files same)
     left (inr made) = inr (made_later old.files middle.files new.files name [] has.leaves.nothing.files made)
 
 -- it was made and written, or a prefix of it was written
-pub makes_said : (row : Row) (names next : ℕ) (old middle made new : Outside) (name bytes : List ℕ) (result : Result (Unit {0}) WriteFail) → take next (file_words row) ≡ take names (file_words row) ++ (name, AskedMake) ∷ [] → next ≡ length (file_words row) → HasRead row names old middle → MakesFile {T = Unit {0}} {E = WriteFail} middle made name (Ok tt) → Appends made new bytes result → Says row (told_before old new) (says_file next name bytes) → Does row old new (after_write result)
-makes_said row names next old middle made new name bytes (Ok done) taken all has makes appends says = record {
+pub makes_said : (row : Row) (names next : ℕ) (old middle made new : Outside) (name bytes : List ℕ) (result : Result (Unit {0}) WriteFail) → take next (file_words row) ≡ take names (file_words row) ++ (name, AskedMake) ∷ [] → next ≡ length (file_words row) → HasRead row names old middle → MakesFile {T = Unit {0}} {E = WriteFail} middle made name (Ok tt) → Appends made new bytes result → Says row (told_before old new) (says_file next name bytes) → IsPlainRow row old new → Does row old new (after_write result)
+makes_said row names next old middle made new name bytes (Ok done) taken all has makes appends says plain = record {
   names = next;
   asks = Asks-same _ old made new (made_asks row names next old middle made name (Ok tt) taken has makes) (Asks-appends made new bytes (Ok done) appends);
   all = all;
@@ -179,7 +190,7 @@ makes_said row names next old middle made new name bytes (Ok done) taken all has
     };
   };
 }
-makes_said row names next old middle made new name bytes (Err why) taken all has makes appends says =
+makes_said row names next old middle made new name bytes (Err why) taken all has makes appends says plain =
     makes_part row names next old new name bytes
     (Asks-same _ old made new (made_asks row names next old middle made name (Ok tt) taken has makes) (Asks-appends made new bytes (Err why) appends))
     (λ none. appends.read_faults ∙ makes.read_faults ∙ has.reads none)
@@ -190,7 +201,7 @@ makes_said row names next old middle made new name bytes (Err why) taken all has
       files = inr (made_with old.files made new name appends.part.0 makes.making (made_later old.files middle.files made.files name [] has.leaves.nothing.files makes.made) appends.part.2);
     })
     (Rose-later old.write_faults made.write_faults new.write_faults (let before = has.asks.write_faults in let after = makes.write_faults in omega arith) appends.failed)
-    says
+    says plain
 
 -- the exit of a `?` whose error becomes the fault
 pub at_exit : (row : Row) (old new : Outside) (fault : Fault) (result : Result (Unit {0}) Fault) → IsErrAnd result (λ e. e ≡ fault) → Does row old new (Err fault) → Does row old new result
@@ -211,12 +222,15 @@ one_read : {T : Type 0} (row : Row) (name : List ℕ) (old new : Outside) (Is : 
 one_read row name old new Is Refuses result only reads =
     has_read-more row 0 1 name old old new Is Refuses result (ap (λ (words : List (List ℕ × AskedBy)). take 1 words) only) (is_only row name only) (has_read-none row old) reads
 
+sized_one : (row : Row) (name : List ℕ) → ReadsOnly row name → 1 ≤ length (file_words row)
+sized_one row name only = subst (λ (words : List (List ℕ × AskedBy)). 1 ≤ length words) (sym only) (lit≤ tt)
+
 -- or it failed
 pub one_fails : {T : Type 0} (row : Row) (name : List ℕ) (old new : Outside) (Is : List ℕ → T → Type 0) (Refuses : List ℕ → Refusal → Type 0) (fault : Fault) → ReadsOnly row name → ReadsInput {T = T} old new name Is Refuses (Err fault) → ((bytes : List ℕ) (why : Refusal) → Holds (told_before old new) name bytes → Refuses bytes why → Says row (told_before old new) (refuses 1 why)) → Does row old new (Err fault)
 one_fails row name old new Is Refuses fault only reads says =
     input_fails row 0 1 name old old new Is Refuses fault (ap (λ (words : List (List ℕ × AskedBy)). take 1 words) only) (is_only row name only)
     (subst (λ (words : List (List ℕ × AskedBy)). AsksFirst words 1) (sym only) (lit≤ tt))
-    (has_read-none row old) reads says (λ s some said. asks_first row (told_before old new) s said)
+    (has_read-none row old) reads says (λ s some said. asks_first row (told_before old new) s (sized_one row name only) said)
 
 -- what it is read as is refused
 pub one_refused : {T : Type 0} (row : Row) (name : List ℕ) (old new : Outside) (Is : List ℕ → T → Type 0) (Refuses : List ℕ → Refusal → Type 0) (value : T) (why : Refusal) → ReadsOnly row name → ReadsInput old new name Is Refuses (Ok value) → ((bytes : List ℕ) → Holds (told_before old new) name bytes → Is bytes value → Says row (told_before old new) (refuses 1 why)) → Does row old new (Err (Refused why))
@@ -231,12 +245,13 @@ one_lacks row name old new Is Refuses value only reads =
     (subst (λ (words : List (List ℕ × AskedBy)). AsksFirst words 1) (sym only) (lit≤ tt))
 
 -- what it says was printed, or a prefix of that
-pub one_prints : {T : Type 0} (row : Row) (name : List ℕ) (old middle new : Outside) (Is : List ℕ → T → Type 0) (Refuses : List ℕ → Refusal → Type 0) (value : T) (text : List ℕ) (result : Result (Unit {0}) WriteFail) → ReadsOnly row name → ReadsInput old middle name Is Refuses (Ok value) → Prints middle new text result → ((bytes : List ℕ) → Holds (told_before old new) name bytes → Is bytes value → Says row (told_before old new) (says_text 1 text)) → Does row old new (after_write result)
-one_prints row name old middle new Is Refuses value text result only reads prints says =
+pub one_prints : {T : Type 0} (row : Row) (name : List ℕ) (old middle new : Outside) (Is : List ℕ → T → Type 0) (Refuses : List ℕ → Refusal → Type 0) (value : T) (text : List ℕ) (result : Result (Unit {0}) WriteFail) → ReadsOnly row name → ReadsInput old middle name Is Refuses (Ok value) → Prints middle new text result → ((bytes : List ℕ) → Holds (told_before old new) name bytes → Is bytes value → Says row (told_before old new) (says_text 1 text)) → IsPlainRow row old new → Does row old new (after_write result)
+one_prints row name old middle new Is Refuses value text result only reads prints says plain =
     prints_said row 1 old middle new text result (sym (ap (λ (words : List (List ℕ × AskedBy)). length words) only))
     (one_read row name old middle Is Refuses (Ok value) only reads)
     prints
     (says reads.input.0 (held_before old middle new name reads.input.0 reads.leaves.nothing.files (still_told middle.files new.files prints.files) reads.input.1) reads.input.2)
+    plain
 
 -- what is refused as a module is said to be
 pub module_refused : (P : Module → Saying → Type 0) (bytes : List ℕ) (why : Refusal) → RefusesAsModule bytes why → ModuleSays P bytes (refuses 1 why)

@@ -6,15 +6,18 @@ use Rattle.poke_base.specs.declared.host.AskedBy.{AskedBy}
 use Rattle.poke_base.specs.declared.host.AskedBy.TheVariants.{Read, Make as MakeFile}
 use Rattle.poke_base.specs.Number.{dec_number}
 use Rattle.poke_tool.specs.declared.command.Command.{Command}
-use Rattle.poke_tool.specs.declared.command.Command.TheVariants.{Plan as WithPlan, Show as WithShow, Check as WithCheck, Make as WithMake, Wants as WithWants}
+use Rattle.poke_tool.specs.declared.command.Command.TheVariants.{Plan as WithPlan, Show as WithShow, Check as WithCheck, Make as WithMake, Wants as WithWants, Run as WithRun, Replay as WithReplay, Bench as WithBench}
 
--- a command with the names of its files
+-- a command with the names of its files, in the order of its words, and its numbers
 pub data Row : Type 0 where
   Plan : List ℕ → Row
   Show : List ℕ → Row
   Check : List ℕ → Row
   Make : ℕ → List ℕ → Row
   Wants : List ℕ → List ℕ → Row
+  Run : List ℕ → List ℕ → List ℕ → ℕ → Row
+  Replay : List ℕ → List ℕ → List ℕ → Row
+  Bench : ℕ → ℕ → Row
 
 -- the command that the program read
 abbrev pub row : Command → Row
@@ -23,6 +26,9 @@ row (WithShow module_file) = Show module_file.now
 row (WithCheck module_file) = Check module_file.now
 row (WithMake blocks module_file) = Make blocks module_file.now
 row (WithWants module_file script_file) = Wants module_file.now script_file.now
+row (WithRun module_file script_file journal_file seed) = Run module_file.now script_file.now journal_file.now seed
+row (WithReplay module_file script_file journal_file) = Replay module_file.now script_file.now journal_file.now
+row (WithBench blocks seed) = Bench blocks seed
 
 -- the words after the program's name
 abbrev pub words_of : List (String Global) → List (List ℕ)
@@ -41,6 +47,14 @@ two_files (file ∷ []) = None
 two_files (file ∷ second ∷ []) = Some (file, second)
 two_files (file ∷ second ∷ more ∷ rest) = None
 
+-- the only three words after a command's name, its files
+abbrev pub three_files : List (List ℕ) → Option (List ℕ × List ℕ × List ℕ)
+three_files [] = None
+three_files (file ∷ []) = None
+three_files (file ∷ second ∷ []) = None
+three_files (file ∷ second ∷ third ∷ []) = Some (file, second, third)
+three_files (file ∷ second ∷ third ∷ more ∷ rest) = None
+
 -- a number of blocks, 10 to 1,000
 abbrev pub in_range : Option ℕ → Option ℕ
 in_range None = None
@@ -56,6 +70,27 @@ make_row (n ∷ []) = None
 make_row (n ∷ module_file ∷ []) = option_map (λ n. Make n module_file) (block_count n)
 make_row (n ∷ module_file ∷ more ∷ rest) = None
 
+-- `run MODULE SCRIPT JOURNAL SEED`, with a seed below 2^64
+abbrev pub run_row : List (List ℕ) → Option Row
+run_row [] = None
+run_row (module_file ∷ []) = None
+run_row (module_file ∷ script_file ∷ []) = None
+run_row (module_file ∷ script_file ∷ journal_file ∷ []) = None
+run_row (module_file ∷ script_file ∷ journal_file ∷ seed ∷ []) =
+    option_map (λ seed. Run module_file script_file journal_file seed) (dec_number seed)
+run_row (module_file ∷ script_file ∷ journal_file ∷ seed ∷ more ∷ rest) = None
+
+-- `bench N SEED`
+abbrev pub bench_numbers : Option ℕ → Option ℕ → Option Row
+bench_numbers None seed = None
+bench_numbers (Some n) seed = option_map (λ seed. Bench n seed) seed
+
+abbrev pub bench_row : List (List ℕ) → Option Row
+bench_row [] = None
+bench_row (n ∷ []) = None
+bench_row (n ∷ seed ∷ []) = bench_numbers (block_count n) (dec_number seed)
+bench_row (n ∷ seed ∷ more ∷ rest) = None
+
 -- the command that the words are; none for all other words
 abbrev pub row_of : List (List ℕ) → Option Row
 row_of [] = None
@@ -65,6 +100,9 @@ row_of (name ∷ rest) =
     else if bytes_eq name (codes "check") then option_map (λ file. Check file) (one_file rest)
     else if bytes_eq name (codes "make") then make_row rest
     else if bytes_eq name (codes "wants") then option_map (λ files. Wants files.0 files.1) (two_files rest)
+    else if bytes_eq name (codes "run") then run_row rest
+    else if bytes_eq name (codes "replay") then option_map (λ files. Replay files.0 files.1 files.2) (three_files rest)
+    else if bytes_eq name (codes "bench") then bench_row rest
     else None
 
 -- the file words of a command from left to right, each with the call that it is handed to
@@ -74,6 +112,11 @@ file_words (Show module_file) = (module_file, Read) ∷ []
 file_words (Check module_file) = (module_file, Read) ∷ []
 file_words (Make n module_file) = (module_file, MakeFile) ∷ []
 file_words (Wants module_file script_file) = (module_file, Read) ∷ (script_file, Read) ∷ []
+file_words (Run module_file script_file journal_file seed) =
+    (module_file, Read) ∷ (script_file, Read) ∷ (journal_file, MakeFile) ∷ []
+file_words (Replay module_file script_file journal_file) =
+    (module_file, Read) ∷ (script_file, Read) ∷ (journal_file, Read) ∷ []
+file_words (Bench n seed) = []
 
 -- the numbers of a command are in their ranges
 abbrev pub IsInRange : Command → Type 0
@@ -82,3 +125,6 @@ IsInRange (WithShow module_file) = ⊤
 IsInRange (WithCheck module_file) = ⊤
 IsInRange (WithMake blocks module_file) = (10 ≤ blocks) × (blocks ≤ 1000)
 IsInRange (WithWants module_file script_file) = ⊤
+IsInRange (WithRun module_file script_file journal_file seed) = ⊤
+IsInRange (WithReplay module_file script_file journal_file) = ⊤
+IsInRange (WithBench blocks seed) = (10 ≤ blocks) × (blocks ≤ 1000)

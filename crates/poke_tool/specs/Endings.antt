@@ -6,10 +6,12 @@ use Rattle.poke_base.specs.Host.{Outside, Rose, Tells, Adds, with_file, with_mor
 use Rattle.poke_tool.specs.declared.fault.Fault.{Fault}
 use Rattle.poke_tool.specs.declared.fault.Fault.TheVariants.{Refused}
 use Rattle.poke_tool.specs.declared.fault.Refusal.{Refusal}
+use Rattle.poke_tool.specs.declared.fault.Refusal.TheVariants.{Journal}
+use Rattle.poke_tool.specs.declared.journal_fault.JournalRefused.TheVariants.{Line as JournalLine}
 use Rattle.poke_tool.specs.Command.{Row, file_words}
 use Rattle.poke_tool.specs.Fault.{complaint_of, refusal_status, status_of}
 use Rattle.poke_tool.specs.Runs.{Cuts, DoesSaying, MakesNothing, MakesPrefix, SaysSomething}
-use Rattle.poke_tool.specs.Saying.{IsModuleOf, Saying, Says, saying_status, told_before}
+use Rattle.poke_tool.specs.Saying.{Begins, IsModuleOf, Saying, Says, saying_status, told_before}
 
 -- the file words of the command, none where the words are no command
 abbrev pub names_of : Option Row → List (List ℕ × AskedBy)
@@ -43,6 +45,11 @@ pub record EndsRefused (row : Row) (old new : Outside) (status : ℕ) : Type 0 w
   pub does : DoesSaying saying old new
   pub reported : Reported old new status (Refused why)
 
+-- a write may fail before a refusal is reached: at a line of a journal, or where something is to be printed or made before it
+abbrev pub MayBeCut : Saying → Refusal → Type 0
+MayBeCut s (Journal (JournalLine line)) = Unit {0}
+MayBeCut s _ = SaysSomething s
+
 -- when each status comes of a command, by what its files said before it
 pub record EndsSaying (row : Row) (old new : Outside) (status : ℕ) : Type 0 where
   -- what the files say was done
@@ -50,9 +57,9 @@ pub record EndsSaying (row : Row) (old new : Outside) (status : ℕ) : Type 0 wh
   -- what they say was done, and the command was refused after that for the reason that was reported
   pub refused : (status ≡ 2) ⊎ (status ≡ 3) ⊎ (status ≡ 4) → EndsRefused row old new status
   -- a part of what they say was done
-  pub cut : status ≡ 6 → (s : Saying) × Says row (told_before old new) s × Cuts row s old new
+  pub cut : status ≡ 6 → (s : Saying) × Begins row (told_before old new) s × Cuts row s old new
   -- what is to be refused is refused, but for a failed read, out of memory, and a failed write of what is done before that
-  pub refuses : (s : Saying) (why : Refusal) → IsSome (told_before old new) → Says row (told_before old new) s → s.refused ≡ Some why → (status ≡ refusal_status why) ⊎ (status ≡ 5) ⊎ (status ≡ 7) ⊎ ((status ≡ 6) × SaysSomething s)
+  pub refuses : (s : Saying) (why : Refusal) → IsSome (told_before old new) → Says row (told_before old new) s → s.refused ≡ Some why → (status ≡ refusal_status why) ⊎ (status ≡ 5) ⊎ (status ≡ 7) ⊎ ((status ≡ 6) × MayBeCut s why)
   -- where no read and no write failed, the status is what the files say, but for out of memory
   pub complete : (s : Saying) → IsSome (told_before old new) → Says row (told_before old new) s → ¬ Rose old.read_faults new.read_faults → ¬ Rose old.write_faults new.write_faults → (status ≡ saying_status s) ⊎ (status ≡ 7)
   -- files that aren't to be refused are done, where no read and no write failed, but for out of memory

@@ -11,6 +11,8 @@ use Rattle.script_text.specs.declared.refused.ScriptWhy.{ScriptWhy}
 use Rattle.script_text.specs.declared.refused.ScriptWhy.TheVariants.{Word, NoCpu, LateCpu, Cpus, Number, Name, Updates, Drops, Turns}
 use Rattle.poke_tool.specs.declared.script_fault.ScriptRefused.{ScriptRefused}
 use Rattle.poke_tool.specs.declared.script_fault.ScriptRefused.TheVariants.{TooLong as LongScript, Line as RefusedLine}
+use Rattle.poke_tool.specs.declared.journal_fault.JournalRefused.{JournalRefused}
+use Rattle.poke_tool.specs.declared.journal_fault.JournalRefused.TheVariants.{TooLong as LongJournal, Line as JournalLine}
 use Rattle.poke_tool.specs.declared.module_fault.ModuleRefused.{ModuleRefused}
 use Rattle.poke_tool.specs.declared.module_fault.ModuleRefused.TheVariants.{TooLong as LongModule, Elf, Image}
 use Rattle.module_image.specs.declared.refused.Refused.{Refused}
@@ -18,13 +20,14 @@ use Rattle.module_image.specs.declared.refused.Refused.TheVariants.{TextCount, T
 use Rattle.poke_tool.specs.declared.fault.Fault.{Fault}
 use Rattle.poke_tool.specs.declared.fault.Fault.TheVariants.{Words, Refused as RefusedFault, Read, Write, Memory}
 use Rattle.poke_tool.specs.declared.fault.Refusal.{Refusal}
-use Rattle.poke_tool.specs.declared.fault.Refusal.TheVariants.{Module, Plan, Script}
+use Rattle.poke_tool.specs.declared.fault.Refusal.TheVariants.{Module, Plan, Script, Journal}
 
 -- the status of a refused file, by its kind
 abbrev pub refusal_status : Refusal → ℕ
 refusal_status (Module why) = 2
 refusal_status (Plan why) = 3
 refusal_status (Script why) = 3
+refusal_status (Journal why) = 4
 
 abbrev pub status_of : Fault → ℕ
 status_of Words = 1
@@ -131,11 +134,17 @@ abbrev pub script_reason : ScriptRefused → List ℕ
 script_reason LongScript = codes "TooLong"
 script_reason (RefusedLine line why) = codes "line " ++ decimal line ++ codes ": " ++ script_name why
 
+-- what is wrong with a journal: its first line that is refused
+abbrev pub journal_reason : JournalRefused → List ℕ
+journal_reason LongJournal = codes "TooLong"
+journal_reason (JournalLine line) = codes "line " ++ decimal line
+
 -- which file is refused, and why
 abbrev pub refusal_reason : Refusal → List ℕ
 refusal_reason (Module why) = codes "module: " ++ module_reason why
 refusal_reason (Plan why) = codes "plan: " ++ name_of why
 refusal_reason (Script why) = codes "script: " ++ script_reason why
+refusal_reason (Journal why) = codes "journal: " ++ journal_reason why
 
 abbrev pub reason_of : Fault → List ℕ
 reason_of Words = codes "bad words"

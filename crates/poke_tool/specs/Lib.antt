@@ -11,3 +11,9 @@ pub mod Runs
 pub mod Endings
 pub mod SiteBytes
 pub mod Tables
+pub mod BenchText
+pub mod RunCuts
+pub mod Journal
+pub mod RunFault
+pub mod Scripted
+pub mod Headline

@@ -8,9 +8,11 @@ use Rattle.poke_base.specs.Text.{IsPrefix}
 use Rattle.poke_tool.specs.declared.fault.Fault.{Fault}
 use Rattle.poke_tool.specs.declared.fault.Fault.TheVariants.{Words, Refused, Read, Write, Memory}
 use Rattle.poke_tool.specs.declared.fault.Refusal.{Refusal}
+use Rattle.poke_tool.specs.Command as command
 use Rattle.poke_tool.specs.Command.{Row, row_of, file_words}
 use Rattle.poke_tool.specs.Fault.{status_of, complaint_of}
-use Rattle.poke_tool.specs.Saying.{Holds, Saying, Says, told_before}
+use Rattle.poke_tool.specs.RunCuts.{CutsRun}
+use Rattle.poke_tool.specs.Saying.{Begins, Holds, Saying, Says, no_tracers, told_before}
 
 -- a text was printed
 abbrev pub PrintsText : Outside → Outside → List ℕ → Type 0
@@ -58,9 +60,21 @@ pub record DoesPart (s : Saying) (old new : Outside) : Type 0 where
   pub printed : PrintsPrefix old new s.text
   pub made : MadePart s.makes old new
 
+-- what a failed write leaves of a run: how far its journal and its trace went together
+abbrev pub Coupled : Row → Saying → Outside → Outside → Type 0
+Coupled (command.Plan file) s old new = ⊤
+Coupled (command.Show file) s old new = ⊤
+Coupled (command.Check file) s old new = ⊤
+Coupled (command.Make n file) s old new = ⊤
+Coupled (command.Wants module_file script_file) s old new = ⊤
+Coupled (command.Run module_file script_file journal_file seed) s old new = CutsRun journal_file no_tracers s old new
+Coupled (command.Replay module_file script_file journal_file) s old new = ⊤
+Coupled (command.Bench n seed) s old new = ⊤
+
 -- what a failed write leaves of what a command's files say
-abbrev pub Cuts : Row → Saying → Outside → Outside → Type 0
-Cuts row s old new = DoesPart s old new
+pub record Cuts (row : Row) (s : Saying) (old new : Outside) : Type 0 where
+  pub part : DoesPart s old new
+  pub coupled : Coupled row s old new
 
 -- something is printed or made
 abbrev pub SaysSomething : Saying → Type 0
@@ -78,7 +92,7 @@ pub record Concludes (row : Row) (names : ℕ) (old new : Outside) (refused : Op
 pub record FailsWriting (row : Row) (names : ℕ) (old new : Outside) : Type 0 where
   pub rose : Rose old.write_faults new.write_faults
   pub saying : Saying
-  pub says : Says row (told_before old new) saying
+  pub says : Begins row (told_before old new) saying
   pub begins : IsSome saying.refused → SaysSomething saying
   pub asks : names ≡ saying.asks
   pub cuts : Cuts row saying old new

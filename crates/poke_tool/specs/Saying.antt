@@ -1,22 +1,37 @@
 -- What the files of a command say of what it does.
-use Rattle.std.specs.Prelude.{◌≡◌, ◌⊎◌, ℕ, List, [], Option, Some, None, Result, Ok, Err}
+use Rattle.std.specs.Prelude.{◌≡◌, ◌⊎◌, ◌<◌, ◌≤◌, ℕ, List, [], ◌++◌, length, Option, Some, None, Result, Ok, Err}
 use Rattle.std.specs.FinMap.{get}
 use Rattle.poke_base.specs.Host.{Files, Outside}
 use Rattle.insn_forms.specs.declared.forms.Change.{Change}
 use Rattle.elf_build.specs.declared.plan.Plan.{Plan}
 use Rattle.elf_build.specs.File.{file_of}
 use Rattle.elf_build.specs.Generated.{IsGenerated}
+use Rattle.bench_run.specs.declared.counts.Counts.{Counts}
+use Rattle.bench_run.specs.Bench.{IsBench}
 use Rattle.module_image.specs.Module.{Module}
+use Rattle.recorded_run.specs.Fed.{fed_events}
+use Rattle.recorded_run.specs.Replaying.{IsNextText, IsRefusedAt, IsReplayed, ReadsLegal}
+use Rattle.recorded_run.specs.Running.{IsRun}
+use Rattle.recorded_run.specs.Tally.{IsTally}
+use Rattle.recorded_run.specs.Trace.{events_text, trace}
+use Rattle.run_journal.specs.declared.event.Event.{Event}
+use Rattle.run_journal.specs.ReaderState.{ReaderState}
+use Rattle.run_journal.specs.Spelling.{journal}
+use Rattle.switching.specs.State.{first}
+use Rattle.tracer_ops.specs.Meaning.{Meaning}
 use Rattle.poke_tool.specs.declared.fault.Refusal.{Refusal}
-use Rattle.poke_tool.specs.declared.fault.Refusal.TheVariants.{Module as ModuleRefusal, Plan as PlanRefusal, Script as ScriptRefusal}
+use Rattle.poke_tool.specs.declared.fault.Refusal.TheVariants.{Module as ModuleRefusal, Plan as PlanRefusal, Script as ScriptRefusal, Journal as JournalRefusal}
+use Rattle.poke_tool.specs.declared.journal_fault.JournalRefused.TheVariants.{TooLong as LongJournal, Line as JournalLine}
 use Rattle.poke_tool.specs.declared.module_fault.ModuleRefused.{ModuleRefused}
 use Rattle.poke_tool.specs.declared.plan_line.PlanRefused.{PlanRefused}
 use Rattle.script_text.specs.Script.{ScriptValue}
 use Rattle.poke_tool.specs.declared.script_fault.ScriptRefused.{ScriptRefused}
+use Rattle.poke_tool.specs.BenchText.{bench_text}
 use Rattle.poke_tool.specs.Check.{Accepts, RefusesModule, accepted_text}
 use Rattle.poke_tool.specs.Command as command
 use Rattle.poke_tool.specs.Command.{Row}
 use Rattle.poke_tool.specs.Fault.{refusal_status}
+use Rattle.poke_tool.specs.Journal.{journal_limit}
 use Rattle.poke_tool.specs.Module.{ModuleShows}
 use Rattle.poke_tool.specs.Plan.{poke_text}
 use Rattle.poke_tool.specs.PlanLine.{PokeLine}
@@ -113,11 +128,95 @@ MakeSays n name s = (bytes : List ℕ) × IsModuleOf n bytes × (s ≡ says_file
 abbrev pub WantsSays : Module → ScriptValue → Saying → Type 0
 WantsSays m script s = (printed : List ℕ) × IsWantsText m script printed × (s ≡ says_text 2 printed)
 
+-- a text is printed, and a file made
+abbrev pub says_both : ℕ → List ℕ → List ℕ → List ℕ → Saying
+says_both n text name bytes = record { text = text; makes = Some (name, bytes); refused = None; asks = n }
+
+-- what `run` says of a script of an accepted module, with the tracers that it is handed: the events that the seed chooses, their
+-- trace, what became of the tracers, and the journal
+pub record RunSays (journal_file : List ℕ) (seed : ℕ) (tracers : List Meaning) (m : Module) (script : ScriptValue) (s : Saying) : Type 0 where
+  pub events : List Event
+  pub run : IsRun m script seed events
+  pub tally : List ℕ
+  pub is_tally : IsTally (fed_events m (first m script) events tracers) tally
+  pub is : s ≡ says_both 3 (trace m (first m script) events ++ tally) journal_file (journal events)
+
+-- a journal is refused at a line, after what the events before it show
+abbrev pub refuses_line : List ℕ → ℕ → Saying
+refuses_line text line = record { text = text; makes = None; refused = Some (JournalRefusal (JournalLine line)); asks = 3 }
+
+-- what bytes say as a journal of a script, the third file of a command: they are too many; or they are refused at a line,
+-- after some events; or they are the journal of legal events
+pub record StopsAt (m : Module) (script : ScriptValue) (bytes : List ℕ) (s : Saying) : Type 0 where
+  pub fits : length bytes ≤ journal_limit
+  pub events : List Event
+  pub line : ℕ
+  pub refused : IsRefusedAt m (first m script) bytes events line
+  pub is : s ≡ refuses_line (events_text m (first m script) events) line
+
+pub record Replays (tracers : List Meaning) (m : Module) (script : ScriptValue) (bytes : List ℕ) (s : Saying) : Type 0 where
+  pub fits : length bytes ≤ journal_limit
+  pub events : List Event
+  pub replayed : IsReplayed m (first m script) bytes events
+  pub tally : List ℕ
+  pub is_tally : IsTally (fed_events m (first m script) events tracers) tally
+  pub is : s ≡ says_text 3 (trace m (first m script) events ++ tally)
+
+abbrev pub IsTooLong : List ℕ → Saying → Type 0
+IsTooLong bytes s = (journal_limit < length bytes) × (s ≡ refuses 3 (JournalRefusal LongJournal))
+
+abbrev pub JournalSays : List Meaning → Module → ScriptValue → List ℕ → Saying → Type 0
+JournalSays tracers m script bytes s = IsTooLong bytes s ⊎ (StopsAt m script bytes s ⊎ Replays tracers m script bytes s)
+
+-- what they say at least, where no more of them is told: what some events show with which they begin, and what is printed next
+pub record JournalBegins (tracers : List Meaning) (m : Module) (script : ScriptValue) (bytes : List ℕ) (s : Saying) : Type 0 where
+  pub fits : length bytes ≤ journal_limit
+  pub events : List Event
+  pub reader : ReaderState
+  pub before : ReadsLegal m (first m script) bytes events reader
+  pub next : List ℕ
+  pub is_next : IsNextText m (first m script) bytes tracers events reader next
+  pub is : s ≡ says_text 3 (events_text m (first m script) events ++ next)
+
+-- what a script of a module says with a journal
+abbrev pub WithJournal : (Module → ScriptValue → List ℕ → Saying → Type 0) → Option Files → List ℕ → Module → ScriptValue → Saying → Type 0
+WithJournal P told journal_file m script s = FileSays (P m script) told journal_file s
+
+-- what `bench` says: the counts of the run of the module with n blocks
+abbrev pub BenchSays : ℕ → ℕ → Saying → Type 0
+BenchSays n seed s = (counts : Counts) × IsBench n seed counts × (s ≡ says_text 0 (bench_text n seed counts))
+
+-- what a module file says with a script file
+abbrev pub WithScript : (Module → ScriptValue → Saying → Type 0) → Option Files → List ℕ → List ℕ → Saying → Type 0
+WithScript P told module_file script_file s =
+    FileSays (ModuleSays (λ m t. FileSays (ScriptSays P m) told script_file t)) told module_file s
+
+-- the program hands in no tracers
+abbrev pub no_tracers : List Meaning
+no_tracers = []
+
 -- what the files of a command say
 abbrev pub Says : Row → Option Files → Saying → Type 0
 Says (command.Plan file) told s = FileSays PlanSays told file s
 Says (command.Show module_file) told s = FileSays ShowSays told module_file s
 Says (command.Check module_file) told s = FileSays (ModuleSays CheckSays) told module_file s
 Says (command.Make n file) told s = MakeSays n file s
-Says (command.Wants module_file script_file) told s =
-    FileSays (ModuleSays (λ m t. FileSays (ScriptSays WantsSays m) told script_file t)) told module_file s
+Says (command.Wants module_file script_file) told s = WithScript WantsSays told module_file script_file s
+Says (command.Run module_file script_file journal_file seed) told s =
+    WithScript (RunSays journal_file seed no_tracers) told module_file script_file s
+Says (command.Replay module_file script_file journal_file) told s =
+    WithScript (WithJournal (JournalSays no_tracers) told journal_file) told module_file script_file s
+Says (command.Bench n seed) told s = BenchSays n seed s
+
+-- what they say at least, where a write fails
+abbrev pub Begins : Row → Option Files → Saying → Type 0
+Begins (command.Plan file) told s = Says (command.Plan file) told s
+Begins (command.Show file) told s = Says (command.Show file) told s
+Begins (command.Check file) told s = Says (command.Check file) told s
+Begins (command.Make n file) told s = Says (command.Make n file) told s
+Begins (command.Wants module_file script_file) told s = Says (command.Wants module_file script_file) told s
+Begins (command.Run module_file script_file journal_file seed) told s =
+    Says (command.Run module_file script_file journal_file seed) told s
+Begins (command.Replay module_file script_file journal_file) told s =
+    WithScript (WithJournal (JournalBegins no_tracers) told journal_file) told module_file script_file s
+Begins (command.Bench n seed) told s = Says (command.Bench n seed) told s

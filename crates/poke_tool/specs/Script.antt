@@ -1,6 +1,7 @@
 -- What a script file says of an accepted module, and why one is refused.
 use Rattle.std.specs.Prelude.{◌≡◌, ◌<◌, ◌≤◌, ⊤, ℕ, List, length, Ok, Err}
 use Rattle.module_image.specs.Module.{Module}
+use Rattle.script_text.specs.Laws.{IsScriptOf}
 use Rattle.script_text.specs.Script.{ScriptValue, script}
 use Rattle.poke_tool.specs.declared.fault.Fault.{Fault}
 use Rattle.poke_tool.specs.declared.fault.Fault.TheVariants.{Refused as RefusedFault, Memory}
@@ -18,10 +19,11 @@ abbrev pub RefusesScript : Module → List ℕ → ScriptRefused → Type 0
 RefusesScript m file TooLong = script_limit < length file
 RefusesScript m file (Line line why) = (length file ≤ script_limit) × (script m file ≡ Err (line, why))
 
--- the bytes are this script of a module
+-- the bytes are this script of a module; its commands and functions are those of the module
 pub record AcceptsScript (m : Module) (file : List ℕ) (s : ScriptValue) : Type 0 where
   pub fits : length file ≤ script_limit
   pub is : script m file ≡ Ok s
+  pub of : IsScriptOf m s
 
 -- why a file isn't accepted as a script, as the refusal of a command
 abbrev pub RefusesAsScript : Module → List ℕ → Refusal → Type 0

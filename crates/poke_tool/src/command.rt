@@ -8,19 +8,49 @@ use poke_base::read_dec;
 #[derive(Clone, Copy, Debug, PartialEq, Eq)]
 pub enum Command<'a> {
     /// Prints the poke of the one change that a file asks for.
-    Plan { file: &'a str },
+    Plan {
+        file: &'a str,
+    },
     /// Prints the entries of a module's tables.
-    Show { module: &'a str },
+    Show {
+        module: &'a str,
+    },
     /// Prints the text and the sites of a module that is accepted.
-    Check { module: &'a str },
+    Check {
+        module: &'a str,
+    },
     /// Writes a module with n blocks, 10 to 1,000.
-    Make { blocks: u32, module: &'a str },
+    Make {
+        blocks: u32,
+        module: &'a str,
+    },
     /// Prints how the updates of a script end, and what the sites of its module then hold.
-    Wants { module: &'a str, script: &'a str },
+    Wants {
+        module: &'a str,
+        script: &'a str,
+    },
+    /// Runs a script by a seed: prints the trace, and writes the journal.
+    Run {
+        module: &'a str,
+        script: &'a str,
+        journal: &'a str,
+        seed: u64,
+    },
+    /// Prints the trace of a journal, or the first line of it that can't have happened.
+    Replay {
+        module: &'a str,
+        script: &'a str,
+        journal: &'a str,
+    },
+    /// Prints the counts of the run of a module with n blocks, 10 to 1,000, by a seed.
+    Bench {
+        blocks: u32,
+        seed: u64,
+    },
 }
 
 impl<'a> Command<'a> {
-    ghost use Rattle.poke_tool.specs.Command.{IsInRange, Wants, make_row, row, row_of, two_files, words_of};
+    ghost use Rattle.poke_tool.specs.Command.{IsInRange, Replay, Wants, bench_row, make_row, row, row_of, run_row, three_files, two_files, words_of};
 
     /// The command that the words are. `None` exactly for all other words.
     pub fn read(words: &'a [String]) -> Option<Command<'a>>
@@ -40,6 +70,9 @@ impl<'a> Command<'a> {
             }),
             "make" => Command::make(rest),
             "wants" => Command::wants(rest),
+            "run" => Command::run(rest),
+            "replay" => Command::replay(rest),
+            "bench" => Command::bench(rest),
             _ => None,
         }
     }
@@ -68,6 +101,55 @@ impl<'a> Command<'a> {
     {
         let (module, script) = two_files(rest)?;
         Some(Command::Wants { module, script })
+    }
+
+    /// `run MODULE SCRIPT JOURNAL SEED`
+    fn run(rest: &'a [String]) -> Option<Command<'a>>
+        ensures row { option_map row result ≡ run_row (words_of rest.now) }
+        ensures in_range { IfSome result IsInRange }
+    {
+        match rest {
+            [module, script, journal, seed] => {
+                let seed = read_dec(seed.as_bytes())?;
+                Some(Command::Run {
+                    module: module.as_str(),
+                    script: script.as_str(),
+                    journal: journal.as_str(),
+                    seed,
+                })
+            }
+            _ => None,
+        }
+    }
+
+    /// `replay MODULE SCRIPT JOURNAL`
+    fn replay(rest: &'a [String]) -> Option<Command<'a>>
+        ensures row { option_map row result ≡ option_map (λ files. Replay files.0 files.1 files.2) (three_files (words_of rest.now)) }
+        ensures in_range { IfSome result IsInRange }
+    {
+        match rest {
+            [module, script, journal] => Some(Command::Replay {
+                module: module.as_str(),
+                script: script.as_str(),
+                journal: journal.as_str(),
+            }),
+            _ => None,
+        }
+    }
+
+    /// `bench N SEED`
+    fn bench(rest: &'a [String]) -> Option<Command<'a>>
+        ensures row { option_map row result ≡ bench_row (words_of rest.now) }
+        ensures in_range { IfSome result IsInRange }
+    {
+        match rest {
+            [n, seed] => {
+                let blocks = block_count(n)?;
+                let seed = read_dec(seed.as_bytes())?;
+                Some(Command::Bench { blocks, seed })
+            }
+            _ => None,
+        }
     }
 }
 

@@ -4,14 +4,17 @@ ghost use Rattle.arrayvec.specs.ArrayVec.{array_vec_len};
 ghost use Rattle.poke_tool.specs.declared.fault.Fault.TheVariants.{Memory, Write};
 ghost use Rattle.poke_tool.specs.declared.fault.Fault.TheVariants.{Refused as RefusedFault};
 ghost use Rattle.poke_tool.specs.declared.fault.Refusal.TheVariants.{Module as ModuleRefusal, Plan as PlanRefusal};
-ghost use Rattle.poke_tool.specs.Fault.{elf_name, elf_number, image_name, image_place, kind_name, module_reason, name_of, script_name, script_reason};
+ghost use Rattle.poke_tool.specs.RunFault.{run_fault};
+ghost use Rattle.poke_tool.specs.Fault.{elf_name, elf_number, image_name, image_place, journal_reason, kind_name, module_reason, name_of, script_name, script_reason};
 
+use crate::journal_fault::JournalRefused;
 use crate::module_fault::ModuleRefused;
 use crate::plan_line::PlanRefused;
 use crate::script_fault::ScriptRefused;
 use elf_module::ElfRefused;
 use module_image::Refused;
 use poke_base::{Line, NoMemory, WriteFail, put_dec, put_hex, put_text};
+use recorded_run::RunFault;
 use script_text::ScriptWhy;
 use site_tables::TableKind;
 use thiserror::Error;
@@ -28,6 +31,9 @@ pub enum Refusal {
     /// The script file.
     #[error("script: {0}")]
     Script(ScriptRefused),
+    /// The journal file.
+    #[error("journal: {0}")]
+    Journal(JournalRefused),
 }
 
 /// Why a command failed.
@@ -74,6 +80,17 @@ impl From<WriteFail> for Fault {
     }
 }
 
+impl From<RunFault> for Fault {
+    ghost from_gives = { λ why fault. fault ≡ run_fault why };
+
+    fn from(why: RunFault) -> Fault {
+        match why {
+            RunFault::Write => Fault::Write,
+            RunFault::Line(line) => Fault::Refused(Refusal::Journal(JournalRefused::Line(line))),
+        }
+    }
+}
+
 impl From<NoMemory> for Fault {
     ghost from_gives = { λ _ fault. fault ≡ Memory };
 
@@ -92,6 +109,7 @@ impl Refusal {
         match self {
             Refusal::Module(_) => 2,
             Refusal::Plan(_) | Refusal::Script(_) => 3,
+            Refusal::Journal(_) => 4,
         }
     }
 
@@ -114,6 +132,10 @@ impl Refusal {
             Refusal::Script(why) => {
                 put_text(line, b"script: ");
                 put_script(line, why);
+            }
+            Refusal::Journal(why) => {
+                put_text(line, b"journal: ");
+                put_journal(line, why);
             }
         }
     }
@@ -200,6 +222,22 @@ fn put_script(line: &mut Line, why: &ScriptRefused)
             put_dec(line, u64::from(*number));
             put_text(line, b": ");
             put_text(line, script_name(why));
+        }
+    }
+}
+
+/// Adds what is wrong with a journal, a name or a line, to the line.
+#[tactic(auto, using(poke_base::proofs::Numbers::line_room))]
+fn put_journal(line: &mut Line, why: &JournalRefused)
+    requires { array_vec_len line.old ≤ 19 }
+    ensures reason { line.new.items ≡ line.old.items ++ journal_reason why.now }
+    ensures short { length (journal_reason why.now) ≤ 25 }
+{
+    match why {
+        JournalRefused::TooLong => put_text(line, b"TooLong"),
+        JournalRefused::Line(number) => {
+            put_text(line, b"line ");
+            put_dec(line, *number);
         }
     }
 }

@@ -2,14 +2,19 @@
 ghost use Rattle.std.specs.Prelude.{◌≡◌, ◌≢◌, ◌↔◌, ℕ, List, None, Some};
 ghost use Rattle.poke_base.specs.Host.{Rose};
 ghost use Rattle.poke_tool.specs.Command.{Row, Make, row, row_of, words_of};
-ghost use Rattle.poke_tool.specs.Runs.{DoesRow, LeavesAll, Runs};
+ghost use Rattle.poke_tool.specs.Runs.{DoesRow, LeavesAll, MakesNothing, Runs};
 ghost use Rattle.poke_tool.specs.Endings.{AsksInOrder, EndsAloud, EndsMaking, EndsSaying};
+ghost use Rattle.poke_tool.specs.Headline.{AnyRun, IsShown, RunsProcessors, ShowsRun};
+ghost use Rattle.recorded_run.specs.Headline.{EndsAsCommands, HoldsWhatIsWanted, IsSwitched, NeverOldAgain, OnlyNewAfterReturn, PassesWhole};
 
+use crate::bench::bench;
 use crate::check::check;
 use crate::command::Command;
 use crate::fault::Fault;
 use crate::make::make;
 use crate::plan::plan;
+use crate::replay::replay;
+use crate::run::run;
 use crate::show::show;
 use crate::wants::wants;
 use poke_base::Host;
@@ -19,22 +24,38 @@ use std::alloc::Global;
 /// words don't have the program's name.
 ///
 /// 0: done. 1: the words are no command. 2: the module was refused. 3: the plan or script file was refused.
-/// 5: a file wasn't read. 6: a write failed. 7: out of memory. At every status but 0 the reason is
-/// reported in one line; a report that fails leaves the status as it is.
+/// 4: the journal was refused. 5: a file wasn't read. 6: a write failed. 7: out of memory. At every status but 0
+/// the reason is reported in one line; a report that fails leaves the status as it is.
 ///
 /// What a command does is what its files said before it (`Says`). At 0 all of that was printed and
-/// made; at 2 and 3 the file is refused for the reason that is reported; at 6 a prefix of what 0
-/// prints was printed, and a file that is made is as before or holds a prefix. At every status but 0
-/// and 6 nothing was printed, and no file was made or changed.
+/// made; at 2, 3 and 4 the file is refused for the reason that is reported; at 6 a prefix of what 0
+/// prints was printed, and a file that is made is as before or holds a prefix. At 4 what the events before the line show
+/// was printed; at every status but 0, 4 and 6 nothing was printed. At every status but 0 and 6 no file was made or changed.
+///
+/// The headline. At 0 `run` and `replay` have shown a run: their files hold an accepted module and a script of it, and the events
+/// are legal, those that the seed chooses, whose journal is in the file that was made, or those of the journal that was read; and
+/// their trace was printed. That trace is the one of a machine that knows whole instructions alone. Each pass through a site is
+/// its whole old or whole new instruction; within one update no processor does the old one after the new; once the update has
+/// returned, only the new one is done; at the end every site that isn't foreign holds what its key, target or trace state
+/// prescribes; and the updates end as the script's commands do, whatever the processors did meanwhile.
 pub fn textpoke<H: Host>(alloc: Global, words: &[String], host: &mut H) -> u8
     ensures runs { Runs (words_of words.now) (H.outside host.old) (H.outside host.new) result }
 
     ensures bad_words { (result ≡ 1) ↔ (row_of (words_of words.now) ≡ None) }
     ensures read_fault { result ≡ 5 → Rose (H.outside host.old).read_faults (H.outside host.new).read_faults }
     ensures write_fault { result ≡ 6 → Rose (H.outside host.old).write_faults (H.outside host.new).write_faults }
-    ensures leaves_all { result ≢ 0 → result ≢ 6 → LeavesAll (H.outside host.old) (H.outside host.new) }
+    ensures leaves_all { result ≢ 0 → result ≢ 4 → result ≢ 6 → LeavesAll (H.outside host.old) (H.outside host.new) }
+    ensures makes_nothing { result ≢ 0 → result ≢ 6 → MakesNothing (H.outside host.old) (H.outside host.new) }
     ensures asks_in_order { AsksInOrder (row_of (words_of words.now)) (H.outside host.old) (H.outside host.new) result }
     ensures ends_aloud { EndsAloud (H.outside host.old) (H.outside host.new) result }
+
+    ensures shows_a_run { result ≡ 0 → RunsProcessors (row_of (words_of words.now)) → ShowsRun (row_of (words_of words.now)) (H.outside host.old) (H.outside host.new) }
+    ensures is_switched { (r : AnyRun) → IsShown (row_of (words_of words.now)) (H.outside host.old) (H.outside host.new) r → IsSwitched r.m r.script r.events }
+    ensures passes_whole { (r : AnyRun) → IsShown (row_of (words_of words.now)) (H.outside host.old) (H.outside host.new) r → PassesWhole r.m r.script r.events }
+    ensures never_old_again { (r : AnyRun) → IsShown (row_of (words_of words.now)) (H.outside host.old) (H.outside host.new) r → NeverOldAgain r.m r.script r.events }
+    ensures only_new_after_return { (r : AnyRun) → IsShown (row_of (words_of words.now)) (H.outside host.old) (H.outside host.new) r → OnlyNewAfterReturn r.m r.script r.events }
+    ensures holds_what_is_wanted { (r : AnyRun) → IsShown (row_of (words_of words.now)) (H.outside host.old) (H.outside host.new) r → HoldsWhatIsWanted r.m r.script r.events }
+    ensures ends_as_commands { (r : AnyRun) → IsShown (row_of (words_of words.now)) (H.outside host.old) (H.outside host.new) r → EndsAsCommands r.m r.script r.events }
 
     ensures says { (row : Row) → row_of (words_of words.now) ≡ Some row → EndsSaying row (H.outside host.old) (H.outside host.new) result }
     ensures makes { (n : ℕ) (name : List ℕ) → row_of (words_of words.now) ≡ Some (Make n name) → EndsMaking n name (H.outside host.old) (H.outside host.new) result }
@@ -60,5 +81,21 @@ fn do_command<H: Host>(alloc: Global, words: &[String], host: &mut H) -> Result<
         Some(Command::Check { module }) => check(alloc, module, host),
         Some(Command::Make { blocks, module }) => make(alloc, blocks, module, host),
         Some(Command::Wants { module, script }) => wants(alloc, module, script, host),
+        Some(
+            Command::Run {
+                module,
+                script,
+                journal,
+                seed,
+            },
+        ) => run(alloc, module, script, journal, seed, host),
+        Some(
+            Command::Replay {
+                module,
+                script,
+                journal,
+            },
+        ) => replay(alloc, module, script, journal, host),
+        Some(Command::Bench { blocks, seed }) => bench(alloc, blocks, seed, host),
     }
 }

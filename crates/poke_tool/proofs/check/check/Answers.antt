@@ -15,9 +15,9 @@ pub returns-in_err-print_image : goal.returns-in_err-print_image
 returns-in_err-print_image g c =
     let m = c.in_ok-image.image in
     at_exit (Check c.args.name.now) _ _ Write c.from_residual-in_err-print_image.result c.from_residual-in_err-print_image.ensures.1
-    (one_prints (Check c.args.name.now) c.args.name.now _ _ _ _ _ m (accepted_text m.base m.text m.sites) (Err c.in_err-print_image.field-0.0) refl c.in_ok-image.ensures c.in_err-print_image.ensures (λ bytes holds accepts. (bytes, holds, inr (m, accepts, refl))))
+    (one_prints (Check c.args.name.now) c.args.name.now _ _ _ _ _ m (accepted_text m.base m.text m.sites) (Err c.in_err-print_image.field-0.0) refl c.in_ok-image.ensures c.in_err-print_image.ensures (λ bytes holds accepts. (bytes, holds, inr (m, accepts, refl))) (record { begins = λ s says. says; coupled = λ s. tt }))
 
 pub returns : goal.returns
 returns g c =
     let m = c.in_ok-image.image in
-    one_prints (Check c.args.name.now) c.args.name.now _ _ _ _ _ m (accepted_text m.base m.text m.sites) (Ok tt) refl c.in_ok-image.ensures c.in_ok-print_image.ensures (λ bytes holds accepts. (bytes, holds, inr (m, accepts, refl)))
+    one_prints (Check c.args.name.now) c.args.name.now _ _ _ _ _ m (accepted_text m.base m.text m.sites) (Ok tt) refl c.in_ok-image.ensures c.in_ok-print_image.ensures (λ bytes holds accepts. (bytes, holds, inr (m, accepts, refl))) (record { begins = λ s says. says; coupled = λ s. tt })

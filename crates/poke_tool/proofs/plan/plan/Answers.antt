@@ -32,9 +32,9 @@ pub returns-in_err-print_poke : goal.returns-in_err-print_poke
 returns-in_err-print_poke g c =
     let change = c.in_ok-plan.plan.change in
     at_exit (Plan c.args.file.now) _ _ Write c.from_residual-in_err-print_poke.result c.from_residual-in_err-print_poke.ensures.1
-    (one_prints (Plan c.args.file.now) c.args.file.now _ _ _ _ _ c.in_ok-text.text (flat_map item_line (to_print c.in_ok-batch.batch.update)) (Err c.in_err-print_poke.field-0.0) refl c.in_ok-text.ensures c.in_err-print_poke.ensures (λ bytes holds is. (bytes, holds, (Ok change, subst (λ (text : List ℕ). PokeLine text (Ok change)) (c.deref.ensures.value ∙ is.0) c.in_ok-plan.ensures.says, ap (λ (items : List Item). says_text 1 (flat_map item_line items)) c.in_ok-batch.ensures.in_order))))
+    (one_prints (Plan c.args.file.now) c.args.file.now _ _ _ _ _ c.in_ok-text.text (flat_map item_line (to_print c.in_ok-batch.batch.update)) (Err c.in_err-print_poke.field-0.0) refl c.in_ok-text.ensures c.in_err-print_poke.ensures (λ bytes holds is. (bytes, holds, (Ok change, subst (λ (text : List ℕ). PokeLine text (Ok change)) (c.deref.ensures.value ∙ is.0) c.in_ok-plan.ensures.says, ap (λ (items : List Item). says_text 1 (flat_map item_line items)) c.in_ok-batch.ensures.in_order))) (record { begins = λ s says. says; coupled = λ s. tt }))
 
 pub returns : goal.returns
 returns g c =
     let change = c.in_ok-plan.plan.change in
-    one_prints (Plan c.args.file.now) c.args.file.now _ _ _ _ _ c.in_ok-text.text (flat_map item_line (to_print c.in_ok-batch.batch.update)) (Ok tt) refl c.in_ok-text.ensures c.in_ok-print_poke.ensures (λ bytes holds is. (bytes, holds, (Ok change, subst (λ (text : List ℕ). PokeLine text (Ok change)) (c.deref.ensures.value ∙ is.0) c.in_ok-plan.ensures.says, ap (λ (items : List Item). says_text 1 (flat_map item_line items)) c.in_ok-batch.ensures.in_order)))
+    one_prints (Plan c.args.file.now) c.args.file.now _ _ _ _ _ c.in_ok-text.text (flat_map item_line (to_print c.in_ok-batch.batch.update)) (Ok tt) refl c.in_ok-text.ensures c.in_ok-print_poke.ensures (λ bytes holds is. (bytes, holds, (Ok change, subst (λ (text : List ℕ). PokeLine text (Ok change)) (c.deref.ensures.value ∙ is.0) c.in_ok-plan.ensures.says, ap (λ (items : List Item). says_text 1 (flat_map item_line items)) c.in_ok-batch.ensures.in_order))) (record { begins = λ s says. says; coupled = λ s. tt })

@@ -25,9 +25,9 @@ pub returns-in_err-print_tables : goal.returns-in_err-print_tables
 returns-in_err-print_tables g c =
     let text = tables_text c.in_ok-tables.tables in
     at_exit (Show c.args.name.now) _ _ Write c.from_residual-in_err-print_tables.result c.from_residual-in_err-print_tables.ensures.1
-    (one_prints (Show c.args.name.now) c.args.name.now _ _ _ _ _ c.in_ok-bytes.bytes text (Err c.in_err-print_tables.field-0.0) refl c.in_ok-bytes.ensures c.in_err-print_tables.ensures (λ bytes holds is. (bytes, holds, (Ok text, subst (λ (file : List ℕ). ModuleShows file (Ok text)) (c.deref.ensures.value ∙ is.0) c.in_ok-tables.ensures.says, refl))))
+    (one_prints (Show c.args.name.now) c.args.name.now _ _ _ _ _ c.in_ok-bytes.bytes text (Err c.in_err-print_tables.field-0.0) refl c.in_ok-bytes.ensures c.in_err-print_tables.ensures (λ bytes holds is. (bytes, holds, (Ok text, subst (λ (file : List ℕ). ModuleShows file (Ok text)) (c.deref.ensures.value ∙ is.0) c.in_ok-tables.ensures.says, refl))) (record { begins = λ s says. says; coupled = λ s. tt }))
 
 pub returns : goal.returns
 returns g c =
     let text = tables_text c.in_ok-tables.tables in
-    one_prints (Show c.args.name.now) c.args.name.now _ _ _ _ _ c.in_ok-bytes.bytes text (Ok tt) refl c.in_ok-bytes.ensures c.in_ok-print_tables.ensures (λ bytes holds is. (bytes, holds, (Ok text, subst (λ (file : List ℕ). ModuleShows file (Ok text)) (c.deref.ensures.value ∙ is.0) c.in_ok-tables.ensures.says, refl)))
+    one_prints (Show c.args.name.now) c.args.name.now _ _ _ _ _ c.in_ok-bytes.bytes text (Ok tt) refl c.in_ok-bytes.ensures c.in_ok-print_tables.ensures (λ bytes holds is. (bytes, holds, (Ok text, subst (λ (file : List ℕ). ModuleShows file (Ok text)) (c.deref.ensures.value ∙ is.0) c.in_ok-tables.ensures.says, refl))) (record { begins = λ s says. says; coupled = λ s. tt })

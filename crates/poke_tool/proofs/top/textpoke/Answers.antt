@@ -4,7 +4,8 @@ use Rattle.poke_base.specs.Host.{Complains, Outside}
 use Rattle.poke_tool.specs.Command.{Make, Row, row_of, words_of}
 use Rattle.poke_tool.specs.Endings.{EndsMaking, EndsSaying}
 use Rattle.poke_tool.specs.Runs.{RunsRow}
-use Rattle.poke_tool.proofs.Endings.{asks_in_order, bad_words, ends_aloud, ends_making, ends_saying, leaves_all, read_fault, write_fault}
+use Rattle.poke_tool.proofs.Endings.{asks_in_order, bad_words, ends_aloud, ends_making, ends_saying, leaves_all, makes_nothing, read_fault, write_fault}
+use Rattle.poke_tool.proofs.Headlines.{headline_of, shows_run}
 use Rattle.poke_tool.proofs.top.textpoke.Goals as goal
 
 -- the sentences on a command
@@ -41,8 +42,16 @@ returns-in-Err g c =
       read_fault = read_fault words old new _ runs;
       write_fault = write_fault words old new _ runs;
       leaves_all = leaves_all words old new _ runs;
+      makes_nothing = makes_nothing words old new _ runs;
       asks_in_order = asks_in_order words old new _ runs;
       ends_aloud = ends_aloud words old new _ runs;
+      shows_a_run = λ zero of. shows_run words old new _ runs of zero;
+      is_switched = λ r shown. (headline_of words old new r shown).switched;
+      passes_whole = λ r shown. (headline_of words old new r shown).whole;
+      never_old_again = λ r shown. (headline_of words old new r shown).never_old_again;
+      only_new_after_return = λ r shown. (headline_of words old new r shown).only_new_after_return;
+      holds_what_is_wanted = λ r shown. (headline_of words old new r shown).holds_what_is_wanted;
+      ends_as_commands = λ r shown. (headline_of words old new r shown).ends_as_commands;
       says = says_of words old new _ runs;
       makes = makes_of words old new _ runs;
     }
@@ -54,3 +63,29 @@ returns-in-Ok-clause-says g c =
 pub returns-in-Ok-clause-makes : goal.returns-in-Ok-clause-makes
 returns-in-Ok-clause-makes g c =
     makes_of (row_of (words_of c.args.words.now)) _ _ _ (record { middle = g.H.Host.outside c.do_command.new.host; result = Ok c.in-Ok.field-0; does = c.in-Ok.ensures; ends = (refl, refl) })
+
+pub returns-in-Ok-clause-asks_in_order : goal.returns-in-Ok-clause-asks_in_order
+returns-in-Ok-clause-asks_in_order g c =
+    asks_in_order (row_of (words_of c.args.words.now)) _ _ _ (record { middle = g.H.Host.outside c.do_command.new.host; result = Ok c.in-Ok.field-0; does = c.in-Ok.ensures; ends = (refl, refl) })
+
+pub returns-in-Ok-clause-shows_a_run : goal.returns-in-Ok-clause-shows_a_run
+returns-in-Ok-clause-shows_a_run g c zero of =
+    shows_run (row_of (words_of c.args.words.now)) _ _ _ (record { middle = g.H.Host.outside c.do_command.new.host; result = Ok c.in-Ok.field-0; does = c.in-Ok.ensures; ends = (refl, refl) }) of zero
+
+pub returns-in-Ok-clause-is_switched : goal.returns-in-Ok-clause-is_switched
+returns-in-Ok-clause-is_switched g c r shown = (headline_of (row_of (words_of c.args.words.now)) _ _ r shown).switched
+
+pub returns-in-Ok-clause-passes_whole : goal.returns-in-Ok-clause-passes_whole
+returns-in-Ok-clause-passes_whole g c r shown = (headline_of (row_of (words_of c.args.words.now)) _ _ r shown).whole
+
+pub returns-in-Ok-clause-never_old_again : goal.returns-in-Ok-clause-never_old_again
+returns-in-Ok-clause-never_old_again g c r shown = (headline_of (row_of (words_of c.args.words.now)) _ _ r shown).never_old_again
+
+pub returns-in-Ok-clause-only_new_after_return : goal.returns-in-Ok-clause-only_new_after_return
+returns-in-Ok-clause-only_new_after_return g c r shown = (headline_of (row_of (words_of c.args.words.now)) _ _ r shown).only_new_after_return
+
+pub returns-in-Ok-clause-holds_what_is_wanted : goal.returns-in-Ok-clause-holds_what_is_wanted
+returns-in-Ok-clause-holds_what_is_wanted g c r shown = (headline_of (row_of (words_of c.args.words.now)) _ _ r shown).holds_what_is_wanted
+
+pub returns-in-Ok-clause-ends_as_commands : goal.returns-in-Ok-clause-ends_as_commands
+returns-in-Ok-clause-ends_as_commands g c r shown = (headline_of (row_of (words_of c.args.words.now)) _ _ r shown).ends_as_commands

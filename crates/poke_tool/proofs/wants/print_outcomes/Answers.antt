@@ -1,4 +1,4 @@
-use Rattle.std.proofs.Common.{◌≡◌, ◌∙◌, Some, ap, sym}
+use Rattle.std.proofs.Common.{◌∙◌, Some, ap, sym}
 use Rattle.std.proofs.lemmas.Option.{slice_get-get_or}
 use Rattle.key_state.specs.declared.outcome.Outcome.{Outcome}
 use Rattle.poke_tool.proofs.OutcomeLines.{outcome_failed, outcome_printed}

@@ -1,4 +1,4 @@
-use Rattle.std.proofs.Common.{List, Ok, ap, map, subst, ℕ}
+use Rattle.std.proofs.Common.{List, Ok, map, subst, ℕ}
 use Rattle.poke_base.specs.declared.host.WriteFail.{WriteFail}
 use Rattle.poke_base.specs.Host.{Prints}
 use Rattle.poke_base.proofs.Outsides.{Prints-more}

@@ -1,0 +1,48 @@
+-- What comes of a script of a module that is run or replayed, by the fault of the command.
+use Rattle.std.specs.Prelude.{◌≡◌, ◌⊎◌, ℕ, List, Result, Ok, Err}
+use Rattle.module_image.specs.Module.{Module}
+use Rattle.poke_base.specs.declared.host.WriteFail.{WriteFail}
+use Rattle.poke_base.specs.Host.{MakesFile, Outside}
+use Rattle.recorded_run.specs.declared.fault.RunFault.{RunFault}
+use Rattle.recorded_run.specs.declared.fault.RunFault.TheVariants.{Write as WriteStop}
+use Rattle.recorded_run.specs.Replaying.{ReplayDoes}
+use Rattle.recorded_run.specs.Running.{RunDoes}
+use Rattle.script_text.specs.Script.{ScriptValue}
+use Rattle.tracer_ops.specs.Meaning.{Meaning}
+use Rattle.poke_tool.specs.declared.fault.Fault.{Fault}
+use Rattle.poke_tool.specs.declared.fault.Fault.TheVariants.{Memory, Write}
+use Rattle.poke_tool.specs.RunFault.{run_fault}
+
+-- the journal was made, and the script ran
+pub record RunsScript (m : Module) (script : ScriptValue) (journal_file : List ℕ) (seed : ℕ) (tracers : List Meaning) (old new : Outside) (result : Result (Unit {0}) RunFault) : Type 0 where
+  pub made : Outside
+  pub makes : MakesFile {T = Unit {0}} {E = WriteFail} old made journal_file (Ok tt)
+  pub left : List Meaning
+  pub runs : RunDoes m script seed tracers left made new result
+
+-- the journal wasn't made
+pub record HasNoJournal (journal_file : List ℕ) (old new : Outside) : Type 0 where
+  pub why : WriteFail
+  pub makes : MakesFile {T = Unit {0}} {E = WriteFail} old new journal_file (Err why)
+
+abbrev pub RunsAs : Module → ScriptValue → List ℕ → ℕ → List Meaning → Outside → Outside → Result (Unit {0}) Fault → Type 0
+RunsAs m script journal_file seed tracers old new (Ok done) = RunsScript m script journal_file seed tracers old new (Ok tt)
+RunsAs m script journal_file seed tracers old new (Err Write) =
+    HasNoJournal journal_file old new ⊎ RunsScript m script journal_file seed tracers old new (Err WriteStop)
+RunsAs m script journal_file seed tracers old new (Err Memory) = new ≡ old
+RunsAs m script journal_file seed tracers old new (Err _) = ⊥
+
+-- the journal was replayed, or refused at a line, or a print failed
+pub record ReplaysScript (m : Module) (script : ScriptValue) (text : List ℕ) (tracers : List Meaning) (old new : Outside) (result : Result (Unit {0}) RunFault) : Type 0 where
+  pub left : List Meaning
+  pub replays : ReplayDoes m script text tracers left old new result
+
+pub record StopsScript (m : Module) (script : ScriptValue) (text : List ℕ) (tracers : List Meaning) (old new : Outside) (fault : Fault) : Type 0 where
+  pub why : RunFault
+  pub stops : ReplaysScript m script text tracers old new (Err why)
+  pub is : fault ≡ run_fault why
+
+abbrev pub ReplaysAs : Module → ScriptValue → List ℕ → List Meaning → Outside → Outside → Result (Unit {0}) Fault → Type 0
+ReplaysAs m script text tracers old new (Ok done) = ReplaysScript m script text tracers old new (Ok tt)
+ReplaysAs m script text tracers old new (Err Memory) = new ≡ old
+ReplaysAs m script text tracers old new (Err fault) = StopsScript m script text tracers old new fault

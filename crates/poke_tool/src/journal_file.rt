@@ -1,0 +1,25 @@
+//! A journal file.
+ghost use Rattle.poke_tool.specs.Journal.{AcceptsJournal, RefusesAsJournal};
+ghost use Rattle.poke_tool.specs.Runs.{ReadsInput};
+
+use crate::fault::{Fault, Refusal};
+use crate::input::read_input;
+use crate::journal_fault::{JOURNAL_LIMIT, JournalRefused};
+use poke_base::Host;
+use std::alloc::Global;
+
+/// Reads a file of at most as many bytes as a journal may have.
+///
+/// # Errors
+/// `Read` where the file isn't there or a read failed; `Refused` where it has more bytes; out of memory.
+pub fn read_journal<H: Host>(alloc: Global, name: &str, host: &mut H) -> Result<Vec<u8>, Fault>
+    ensures { ReadsInput (H.outside host.old) (H.outside host.new) name.now AcceptsJournal RefusesAsJournal result }
+{
+    read_input(
+        alloc,
+        name,
+        JOURNAL_LIMIT,
+        Refusal::Journal(JournalRefused::TooLong),
+        host,
+    )
+}

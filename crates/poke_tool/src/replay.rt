@@ -1,0 +1,59 @@
+//! The command `replay`: the trace of a journal.
+ghost use Rattle.std.specs.Prelude.{◌≡◌};
+ghost use Rattle.poke_tool.specs.Command.{Replay as ReplayRow};
+ghost use Rattle.poke_tool.specs.Runs.{Does};
+ghost use Rattle.poke_tool.specs.Saying.{no_tracers};
+ghost use Rattle.poke_tool.specs.Scripted.{ReplaysAs};
+ghost use Rattle.script_text.specs.Laws.{IsScriptOf};
+
+use crate::fault::Fault;
+use crate::journal_file::read_journal;
+use crate::module_file::read_module;
+use crate::script_file::read_script;
+use module_image::Image;
+use poke_base::Host;
+use script_runner::World;
+use script_text::Script;
+use std::alloc::Global;
+
+/// Prints what each event of a journal shows, and at the end of the journal and of the script what the sites hold. The
+/// module is read first, then the script, then the journal, each once; no file is made.
+///
+/// # Errors
+/// `Read`, `Refused` for the first thing that is wrong with the module, with the script or with the journal's length, or
+/// `Memory`: nothing was printed. `Refused` for the journal's first line that can't be: what the events before it show was
+/// printed. `Write`: a prefix of the text was printed.
+pub fn replay<H: Host>(
+    alloc: Global,
+    module_name: &str,
+    script_name: &str,
+    journal_name: &str,
+    host: &mut H,
+) -> Result<(), Fault>
+    ensures { Does (ReplayRow module_name.now script_name.now journal_name.now) (H.outside host.old) (H.outside host.new) result }
+{
+    let image = read_module(alloc, module_name, host)?;
+    let script = read_script(alloc, script_name, &image, host)?;
+    let journal = read_journal(alloc, journal_name, host)?;
+    replay_script(alloc, image, script, &journal, host)
+}
+
+/// Replays a journal of a script of a module.
+///
+/// # Errors
+/// `Memory`: nothing was done. `Refused` for the journal's first line that can't be, `Write`: as `replay` has it.
+fn replay_script<H: Host>(
+    alloc: Global,
+    image: Image,
+    script: Script,
+    journal: &[u8],
+    host: &mut H,
+) -> Result<(), Fault>
+    requires { IsScriptOf image script }
+    ensures { ReplaysAs image script journal.now no_tracers (H.outside host.old) (H.outside host.new) result }
+{
+    let mut world = World::new(alloc, image, script)?;
+    let mut tracers = Vec::new(alloc);
+    recorded_run::replay(&mut world, journal, host, &mut tracers)?;
+    Ok(())
+}
