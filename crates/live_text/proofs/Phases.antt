@@ -1,5 +1,5 @@
 -- The bytes of the sites by phase: those of the site's form after the chunks before, and of the table in a chunk that changes it.
-use Rattle.std.proofs.Common.{◌≡◌, ℕ, zero, suc, ◌+◌, ◌*◌, ◌/◌, ◌%◌, ◌<◌, ◌≤◌, List, [], ◌∷◌, ◌++◌, length, take, get_or, refl, ap, sym, ◌∙◌, subst, arith, Option, Some, None}
+use Rattle.std.proofs.Common.{◌≡◌, ℕ, zero, suc, ◌+◌, ◌-◌, ◌*◌, ◌/◌, ◌%◌, ◌<◌, ◌≤◌, List, [], ◌∷◌, ◌++◌, length, take, get_or, refl, ap, sym, ◌∙◌, subst, arith, Option, Some, None}
 use Rattle.std.specs.Prelude.{IsSome, IsNone}
 use Rattle.std.proofs.lemmas.List.{take_more, take_all, get_or_default, get_or_past}
 use mathlib.Core.Logic.{dite}
@@ -15,12 +15,15 @@ use Rattle.live_text.specs.declared.plan.LiveSite.{LiveSite}
 use Rattle.live_text.specs.declared.view.Shape.{Shape}
 use Rattle.live_text.specs.Plan.{chunks_of, form_after, IsChange, Stands}
 use Rattle.live_text.specs.Flat.{rounds, joined, shape_of}
-use Rattle.live_text.specs.Past.{cut, value}
+use Rattle.live_text.specs.Past.{cut, value, seek, Found}
 use Rattle.live_text.specs.Own.{HasByte, site_of, byte_number}
+use Rattle.live_text.specs.Rule.{cached}
+use Rattle.live_text.specs.Seats.{Sits}
 use Rattle.live_text.specs.Table.{byte_after, IsInTable}
 use Rattle.live_text.specs.Versions.{version, version_change, chunk_of, place_in}
-use Rattle.live_text.specs.Laws.{IsBetween, ChangedBytesAreInTheTable, OtherBytesAreOfTheForm}
+use Rattle.live_text.specs.Laws.{IsBetween, ChangedBytesAreInTheTable, OtherBytesAreOfTheForm, CachedBytesWereThere}
 use Rattle.live_text.proofs.Writes.{Has, has_from, has_contains, written_append}
+use Rattle.live_text.proofs.Values.{seek_from}
 use Rattle.live_text.proofs.Rounds.{round, IsPoked, BytesAre}
 use Rattle.live_text.proofs.Standing.{no_site}
 use Rattle.live_text.proofs.Shapes.{cut_is, chunk_poked}
@@ -217,3 +220,19 @@ of_the_form plan cpus g k site i stands has between absent = go (place_in plan (
         ∙ part_misses (g % 3) amid_here.some chunk (after_rounds (g % 3) chunk (after_chunks plan (g / 3))) at (poked plan (g / 3) stands) out
         ∙ rounds_miss (g % 3) chunk (after_chunks plan (g / 3)) at (poked plan (g / 3) stands) out
         ∙ holds_version plan (g / 3) stands site i has
+
+pub were_there : CachedBytesWereThere
+were_there v b n sits held =
+    let found : Found v.shape v.cpu.mark v.cpu.known b n = sits.cache_is b n held in
+    let after : ℕ = seek v.shape b n v.cpu.mark (v.cpu.known - v.cpu.mark) in
+    let from : v.cpu.mark ≤ after = seek_from v.shape b n v.cpu.mark (v.cpu.known - v.cpu.mark) in
+    let to : after ≤ v.cpu.known = found.by in
+    let low : cut v.shape v.cpu.ack ≤ v.cpu.mark = sits.mark_above in
+    let high : v.cpu.known ≤ cut v.shape (v.cpu.ack + 1) = sits.near in
+    record {
+      after = after;
+      from = from;
+      to = to;
+      between = record { from = omega arith; to = omega arith };
+      is = found.same;
+    }

@@ -7,10 +7,13 @@ use Rattle.poke_batch.specs.Poke.{Item, poke, spelled}
 use Rattle.poke_batch.specs.Poke.Item.{Puts, Syncs}
 use Rattle.live_text.specs.declared.plan.LivePlan.{LivePlan}
 use Rattle.live_text.specs.declared.view.Shape.{Shape}
+use Rattle.live_text.specs.declared.view.View.{View}
 use Rattle.live_text.specs.Plan.{chunks_of, Stands}
 use Rattle.live_text.specs.Flat.{placed, rounds, joined, shape_of}
 use Rattle.live_text.specs.Past.{cut, value}
 use Rattle.live_text.specs.Own.{HasByte, site_of, byte_number}
+use Rattle.live_text.specs.Rule.{cached}
+use Rattle.live_text.specs.Seats.{Sits}
 use Rattle.live_text.specs.Table.{IsInTable}
 use Rattle.live_text.specs.Versions.{version, version_change, chunk_of, place_in, breakpoint_write}
 
@@ -66,6 +69,17 @@ ChunksMakeVersions =
     (version plan site (j + 1) ≡ version plan site j)
     (λ place. slice_get (chunk_of plan j) place ≡ Some (version_change plan site j))
 
+-- the breakpoint of a site in chunk j: this write is of CC to the site's first byte, and stands before the chunk's requests and
+-- all later ones
+pub record IsBreakpoint (plan : LivePlan) (p : Shape) (j site place : ℕ) : Type 0 where
+  pub write : slice_get p.writes (breakpoint_write p j place) ≡ Some (record { place = byte_number plan site 0; byte = 0xcc })
+  pub before : (g : ℕ) → 3 * j < g → breakpoint_write p j place < cut p g
+
+abbrev pub BreakpointsAreWritten : Type 0
+BreakpointsAreWritten =
+    (plan : LivePlan) (cpus j site place : ℕ) → Stands plan → site < length plan.sites.items
+    → place_in plan j site ≡ Some place → IsBreakpoint plan (shape_of plan cpus) j site place
+
 -- k lies between request g and the next: phase g % 3 of the poke of chunk g / 3
 pub record IsBetween (p : Shape) (g k : ℕ) : Type 0 where
   pub from : cut p g ≤ k
@@ -85,19 +99,22 @@ OtherBytesAreOfTheForm =
     → IsNone (place_in plan (g / 3) site)
     → value (shape_of plan cpus) k (byte_number plan site j) ≡ slice_index (spelled (version plan site (g / 3)) (site_of plan site).at) j
 
--- the breakpoint of a site in chunk j: this write is of CC to the site's first byte, and stands before the chunk's requests
-pub record IsBreakpoint (plan : LivePlan) (p : Shape) (j site place : ℕ) : Type 0 where
-  pub write : slice_get p.writes (breakpoint_write p j place) ≡ Some (record { place = byte_number plan site 0; byte = 0xcc })
-  pub before : (g : ℕ) → 3 * j < g → breakpoint_write p j place < cut p g
-
-abbrev pub BreakpointsAreWritten : Type 0
-BreakpointsAreWritten =
-    (plan : LivePlan) (cpus j site place : ℕ) → Stands plan → site < length plan.sites.items
-    → place_in plan j site ≡ Some place → IsBreakpoint plan (shape_of plan cpus) j site place
-
 -- in the first phase of a chunk the first byte of a site that it changes is CC exactly where that write is one of the first k
 abbrev pub FirstBytesAreBreakpoints : Type 0
 FirstBytesAreBreakpoints =
     (plan : LivePlan) (cpus g k site place : ℕ) → Stands plan → site < length plan.sites.items
     → IsBetween (shape_of plan cpus) g k → g % 3 ≡ 0 → place_in plan (g / 3) site ≡ Some place
     → (value (shape_of plan cpus) k (byte_number plan site 0) ≡ 0xcc) ↔ (breakpoint_write (shape_of plan cpus) (g / 3) place < k)
+
+-- a value that a byte had from a seat's mark to what it knows of the writes, between the request that it has acknowledged and
+-- the next
+pub record WasThere (v : View) (b n : ℕ) : Type 0 where
+  pub after : ℕ
+  pub from : v.cpu.mark ≤ after
+  pub to : after ≤ v.cpu.known
+  pub between : IsBetween v.shape v.cpu.ack after
+  pub is : value v.shape after b ≡ n
+
+-- what a processor has cached of a byte is such a value
+abbrev pub CachedBytesWereThere : Type 0
+CachedBytesWereThere = (v : View) (b n : ℕ) → Sits v → cached v.cpu b ≡ Some n → WasThere v b n

@@ -1,5 +1,5 @@
 //! What a plan as numbers means in other words. The functions do nothing.
-ghost use Rattle.live_text.specs.Laws.{WritesAreDue, WritesArePlaced, RequestsAreDue, ValuesAreBytes, ChunksHaveThreeRequests, ChunksMakeVersions, BreakpointsAreWritten, ChangedBytesAreInTheTable, OtherBytesAreOfTheForm, FirstBytesAreBreakpoints};
+ghost use Rattle.live_text.specs.Laws.{WritesAreDue, WritesArePlaced, RequestsAreDue, ValuesAreBytes, ChunksHaveThreeRequests, ChunksMakeVersions, BreakpointsAreWritten, ChangedBytesAreInTheTable, OtherBytesAreOfTheForm, FirstBytesAreBreakpoints, CachedBytesWereThere};
 
 /// The writes and requests that the patch seat stores are the items of the pokes of the plan's
 /// chunks, in order.
@@ -26,9 +26,11 @@ pub fn chunks_are_poked()
 /// where the chunk changes the site, the byte is the one that stood there after `g % 3` of its three
 /// rounds or after one more, and before the chunk's first request the first byte is a breakpoint
 /// exactly where that write is past. A byte of any other site is the one of the form that the site has
-/// after the chunks before.
+/// after the chunks before. What a processor has cached is such a byte, of the request that it has
+/// acknowledged.
 pub fn bytes_go_by_phases()
     ensures table { ChangedBytesAreInTheTable }
     ensures others { OtherBytesAreOfTheForm }
     ensures breakpoints { FirstBytesAreBreakpoints }
+    ensures caches { CachedBytesWereThere }
 {}
