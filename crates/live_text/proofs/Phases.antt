@@ -17,8 +17,6 @@ use Rattle.live_text.specs.Plan.{chunks_of, form_after, IsChange, Stands}
 use Rattle.live_text.specs.Flat.{rounds, joined, shape_of}
 use Rattle.live_text.specs.Past.{cut, value, seek, Found}
 use Rattle.live_text.specs.Own.{HasByte, site_of, byte_number}
-use Rattle.live_text.specs.Rule.{cached}
-use Rattle.live_text.specs.Seats.{Sits}
 use Rattle.live_text.specs.Table.{byte_after, IsInTable}
 use Rattle.live_text.specs.Versions.{version, version_change, chunk_of, place_in}
 use Rattle.live_text.specs.Laws.{IsBetween, ChangedBytesAreInTheTable, OtherBytesAreOfTheForm, CachedBytesWereThere}
