@@ -64,10 +64,14 @@ sits p s l c v at stays =
     let shape : p ≡ v.shape = sym f.shape in
     let far : cut p (v.cpu.ack + 1) ≤ length p.writes = l.sound.within (v.cpu.ack + 1) in
     let within : v.cpu.known ≤ length p.writes = omega arith in
+    let greatest : v.cpu.greatest ≤ l.patch.patch.stored = f.fits.greatest in
+    let requests : l.patch.patch.stored < length p.cuts = l.leads.requests in
+    let stored : v.cpu.greatest < length p.cuts = omega arith in
     record {
       role = f.role;
       number = subst (λ (q : Shape). v.cpu.number < q.cpus) shape (omega arith);
       acked = f.fits.acked stays;
+      stored = subst (λ (q : Shape). v.cpu.greatest < length q.cuts) shape stored;
       mark_above = subst (λ (q : Shape). cut q v.cpu.ack ≤ v.cpu.mark) shape (f.fits.mark_above stays);
       mark_below = f.fits.mark_below;
       knows = subst (λ (q : Shape). cut q v.cpu.greatest ≤ v.cpu.known) shape f.fits.knows;

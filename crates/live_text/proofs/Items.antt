@@ -40,19 +40,19 @@ get_left [] ys i x e = absurd (cc)
 get_left (y ∷ xs) ys zero x e = e
 get_left (y ∷ xs) ys (suc i) x e = get_left xs ys i x e
 
-get_right : {A : Type 0} (xs ys : List A) (n i : ℕ) → n ≡ length xs + i → slice_get (xs ++ ys) n ≡ slice_get ys i
+pub get_right : {A : Type 0} (xs ys : List A) (n i : ℕ) → n ≡ length xs + i → slice_get (xs ++ ys) n ≡ slice_get ys i
 get_right [] ys n i e =
     let same : n ≡ i = omega arith in
     ap (λ (k : ℕ). slice_get ys k) same
 get_right (x ∷ xs) ys zero i e = absurd (omega arith)
 get_right (x ∷ xs) ys (suc n) i e = get_right xs ys n i (omega arith)
 
-get_map : {A B : Type 0} (f : A → B) (xs : List A) (i : ℕ) (x : A) → slice_get xs i ≡ Some x → slice_get (map f xs) i ≡ Some (f x)
+pub get_map : {A B : Type 0} (f : A → B) (xs : List A) (i : ℕ) (x : A) → slice_get xs i ≡ Some x → slice_get (map f xs) i ≡ Some (f x)
 get_map f [] i x e = absurd (cc)
 get_map f (y ∷ xs) zero x e = ap (λ z. Some (f z)) (same_Some y x e)
 get_map f (y ∷ xs) (suc i) x e = get_map f xs i x e
 
-get_below : {A : Type 0} (xs ys : List A) (i : ℕ) → i < length xs → slice_get (xs ++ ys) i ≡ slice_get xs i
+pub get_below : {A : Type 0} (xs ys : List A) (i : ℕ) → i < length xs → slice_get (xs ++ ys) i ≡ slice_get xs i
 get_below [] ys i below = absurd (omega arith)
 get_below (x ∷ xs) ys zero below = refl
 get_below (x ∷ xs) ys (suc i) below = get_below xs ys i (omega arith)
@@ -95,7 +95,7 @@ due_request (ws ∷ lists) (suc r) below =
     get_right (round_items ws) (woven lists) (length (ws ++ joined (take (suc r) lists)) + suc r) (length (joined (take (suc r) lists)) + r) (omega arith)
     ∙ due_request lists r (omega arith)
 
-ends_length : (n : ℕ) (lists : List (List Write)) → length (ends n lists) ≡ length lists + 1
+pub ends_length : (n : ℕ) (lists : List (List Write)) → length (ends n lists) ≡ length lists + 1
 ends_length n [] = refl
 ends_length n (ws ∷ lists) =
     let rest : length (ends (n + length ws) lists) ≡ length lists + 1 = ends_length (n + length ws) lists in

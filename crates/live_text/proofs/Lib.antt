@@ -11,4 +11,8 @@ mod Standing
 mod Shapes
 mod Items
 mod Numbers
+mod Places
+mod Pokes
+mod Phases
+mod Breakpoints
 mod TestPlans

@@ -8,14 +8,15 @@ use Rattle.insn_forms.specs.Spelling.{size}
 use Rattle.insn_forms.specs.Write.{Write}
 use Rattle.insn_forms.specs.History.{Memory, put, written}
 use Rattle.poke_batch.specs.Poke.{spelled}
+use Rattle.live_text.specs.declared.plan.LivePlan.{LivePlan}
 use Rattle.live_text.specs.declared.plan.LiveSite.{LiveSite}
 use Rattle.live_text.specs.declared.view.Shape.{Shape}
 use Rattle.live_text.specs.declared.view.PlacedWrite.{PlacedWrite}
-use Rattle.live_text.specs.Plan.{SitesApart}
+use Rattle.live_text.specs.Plan.{SitesApart, Stands}
 use Rattle.live_text.specs.Flat.{starts, place, placed, shape_of}
 use Rattle.live_text.specs.Past.{memory, write_of, value}
 use Rattle.live_text.specs.Own.{site_of, byte_number}
-use Rattle.live_text.specs.Laws.{writes_of, ValuesAreBytes}
+use Rattle.live_text.specs.Laws.{writes_of, HoldsStarts, ValuesAreBytes}
 use Rattle.live_text.proofs.Writes.{Has, has_take, put_there, put_elsewhere}
 use Rattle.live_text.proofs.Values.{value_start}
 use Rattle.live_text.proofs.Rounds.{length-spelled}
@@ -46,7 +47,7 @@ same_number (s ∷ sites) (suc n) (suc m) i j spelt p q a b e =
     let rest = same_number sites n m i j (λ k d below. spelt (suc k) d (omega arith)) (omega arith) (omega arith) a b (omega arith) in
     (ap suc rest.0, rest.1)
 
-number_of : (sites : List LiveSite) (a : ℕ) (s : IsSited sites a) → SitesApart sites → AreSpelt sites → place sites a ≡ length (starts (take s.site sites)) + s.offset
+pub number_of : (sites : List LiveSite) (a : ℕ) (s : IsSited sites a) → SitesApart sites → AreSpelt sites → place sites a ≡ length (starts (take s.site sites)) + s.offset
 number_of sites a s apart spelt =
     ap (place sites) (sym s.there) ∙ place_there sites s.site s.offset no_site apart spelt s.listed s.inside
 
@@ -122,3 +123,16 @@ values_are plan cpus start stands holds k site j has =
     ap (λ (l : List Write). written l (memory p) (byte_number plan site j)) cut_short
     ∙ ap (written (map write_of (map (placed sites) (take k ws))) (memory p)) (sym number)
     ∙ sym (agree_written sites (take k ws) start (memory p) stands.apart stands.spelt each agree a s)
+
+-- a text that holds the forms with which a plan's sites start
+abbrev pub start_text : LivePlan → Memory
+start_text plan a = memory (shape_of plan 0) (place plan.sites.items a)
+
+pub holds_starts : (plan : LivePlan) → Stands plan → HoldsStarts (start_text plan) plan
+holds_starts plan stands site j has =
+    let sites : List LiveSite = plan.sites.items in
+    let a : ℕ = (site_of plan site).at + j in
+    let s : IsSited sites a = record { site = site; offset = j; listed = has.listed; inside = has.byte; there = refl } in
+    ap (memory (shape_of plan 0)) (number_of sites a s stands.apart stands.spelt)
+    ∙ start_value (shape_of plan 0) (length (starts (take site sites)) + j)
+    ∙ start_at sites site j stands.spelt has.listed has.byte

@@ -156,13 +156,14 @@ final_bytes p id v words slots role final =
     subst (λ (z : View × List ℕ). AreWords p z.0.patch.done z.1) (λ k. (first.view k, same k)) is
 
 -- a processor's seat at the start
-pub first_sits : (p : Shape) (c : ℕ) → IsShape p → c < p.cpus → Sits (first_cpu p c)
-first_sits p c sound small =
+pub first_sits : (p : Shape) (c : ℕ) → IsShape p → 0 < length p.cuts → c < p.cpus → Sits (first_cpu p c)
+first_sits p c sound some_cuts small =
     let begins : cut p 0 ≡ 0 = sound.begins in
     record {
       role = refl;
       number = small;
       acked = omega arith;
+      stored = some_cuts;
       mark_above = omega arith;
       mark_below = omega arith;
       knows = omega arith;

@@ -8,6 +8,7 @@ pub mod Plays
 pub mod Layout
 pub mod Laid
 pub mod Own
+pub mod Versions
 pub mod Calls
 pub mod Table
 pub mod Laws

@@ -16,8 +16,9 @@ pub record Placed : Type 0 where
 pub record Sits (v : View) : Type 0 where
   pub role : v.role ≡ Cpu
   pub number : v.cpu.number < v.shape.cpus
-  -- it has acknowledged no generation that it hasn't loaded
+  -- it has acknowledged no generation that it hasn't loaded, and loaded no number of requests that the plan doesn't have
   pub acked : v.cpu.ack ≤ v.cpu.greatest
+  pub stored : v.cpu.greatest < length v.shape.cuts
   -- its mark isn't before the writes before the request that it has acknowledged
   pub mark_above : cut v.shape v.cpu.ack ≤ v.cpu.mark
   pub mark_below : v.cpu.mark ≤ v.cpu.known
