@@ -205,19 +205,20 @@ const SHOWN: &[(usize, &[u8])] = &[
 fn a_journal_is_cut_at_each_byte(rt: HostRuntime) -> Result<(), Fail> {
     for len in 0..STALE.len() {
         let cut = &STALE[..len];
-        let mut whole = 0;
+        // The line that isn't whole, by its number from 1 on.
+        let mut line: usize = 1;
         for byte in cut {
             if *byte == b'\n' {
-                whole += 1;
+                line = line.saturating_add(1);
             }
         }
         let mut printed = Vec::new(rt.alloc());
         for (lines, text) in SHOWN {
-            if *lines <= whole {
+            if *lines < line {
                 printed.extend_from_slice(text)?;
             }
         }
-        let reported = format!(in rt.alloc(); "textpoke: journal: line {}\n", whole + 1)?;
+        let reported = format!(in rt.alloc(); "textpoke: journal: line {line}\n")?;
         replays(
             &rt,
             "cut",
