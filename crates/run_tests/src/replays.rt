@@ -54,140 +54,121 @@ fn journals_are_replayed(rt: HostRuntime) -> Result<(), Fail> {
     )
 }
 
-/// A script, a journal, what is printed, and the line that is refused.
-type Refused<'a> = (&'a str, Small<'a>, &'a [u8], &'a [u8], &'a [u8], &'a [u8]);
+/// Replays a journal, and asserts that this line of it is refused, and what is printed before.
+fn refuses<R: Abort + AllocGlobal>(
+    rt: &R,
+    name: &str,
+    small: &Small<'_>,
+    script: &[u8],
+    journal: &[u8],
+    (printed, line): (&[u8], &[u8]),
+) -> Result<(), Fail> {
+    let mut reported = Vec::from_slice(rt.alloc(), b"textpoke: journal: ")?;
+    reported.extend_from_slice(line)?;
+    reported.push(b'\n')?;
+    replays(rt, name, small, script, journal, (4, printed, &reported))
+}
+
+/// What an update of one site prints when it begins.
+const BEGINS: &[u8] = b"update 1 begin 1\n";
+
+/// An update of a call.
+const CALLED: &[u8] = b"cpu f\ncall ck b\nrun 1\n";
 
 #[test]
-fn a_line_that_cannot_be_is_named(rt: HostRuntime) -> Result<(), Fail> {
-    let begins: &[u8] = b"update 1 begin 1\n";
-    let rows: [Refused<'_>; 16] = [
-        (
-            "old bytes after a request",
-            BRANCH,
-            SWITCHED,
-            b"journal 1\nb\nw\ns\nt 0\na 0 0f1f440000\n",
-            begins,
-            b"line 6",
-        ),
-        (
-            "old bytes after the handler",
-            LOOP,
-            b"cpu f\nrun 1\ninc k\nrun 1\n",
-            b"journal 1\np 0\nb\nw\na 0 cc\nh 0\np 0\np 0\np 0\np 0\na 0 0f1f440000\n",
-            b"update 1 begin 1\n0 401005 jmp 40100f\n",
-            b"line 11",
-        ),
-        (
-            "torn bytes",
-            CALL,
-            b"cpu f\ncall ck b\nrun 1\n",
-            b"journal 1\nb\nw\ns\nt 0\nw\na 0 e809000000\n",
-            begins,
-            b"line 7",
-        ),
-        (
-            "torn bytes at once",
-            CALL,
-            b"cpu f\ncall ck b\nrun 1\n",
-            b"journal 1\nb\nw\na 0 e809000000\n",
-            begins,
-            b"line 4",
-        ),
-        ("an empty journal", BRANCH, SWITCHED, b"", b"", b"line 1"),
-        (
-            "a space after the header",
-            BRANCH,
-            SWITCHED,
-            b"journal 1 \nb\n",
-            b"",
-            b"line 1",
-        ),
-        (
-            "another header",
-            BRANCH,
-            SWITCHED,
-            b"journal 01\nb\n",
-            b"",
-            b"line 1",
-        ),
-        (
-            "a header of another kind",
-            BRANCH,
-            SWITCHED,
-            b"journal 2\nb\n",
-            b"",
-            b"line 1",
-        ),
-        (
-            "a carriage return",
-            BRANCH,
-            SWITCHED,
-            b"journal 1\r\nb\n",
-            b"",
-            b"line 1",
-        ),
-        (
-            "no line feed",
-            BRANCH,
-            SWITCHED,
-            b"journal 1",
-            b"",
-            b"line 1",
-        ),
-        (
-            "a header alone",
-            BRANCH,
-            SWITCHED,
-            b"journal 1\n",
-            b"",
-            b"line 2",
-        ),
-        (
-            "upper case",
-            BRANCH,
-            SWITCHED,
-            b"journal 1\nb\nw\na 0 0F1F440000\n",
-            begins,
-            b"line 4",
-        ),
-        (
-            "ten bytes",
-            BRANCH,
-            SWITCHED,
-            b"journal 1\nb\na 0 0f1f4400000f1f440000\n",
-            begins,
-            b"line 3",
-        ),
-        (
-            "processor 16",
-            BRANCH,
-            SWITCHED,
-            b"journal 1\nb\nw\nt 16\n",
-            begins,
-            b"line 4",
-        ),
-        (
-            "a leading zero",
-            BRANCH,
-            SWITCHED,
-            b"journal 1\nb\nw\ns\nt 00\n",
-            begins,
-            b"line 5",
-        ),
-        (
-            "no line feed at the end",
-            BRANCH,
-            SWITCHED,
-            b"journal 1\nb\nw",
-            begins,
-            b"line 3",
-        ),
-    ];
-    for (name, small, script, journal, printed, line) in rows {
-        let mut reported = Vec::from_slice(rt.alloc(), b"textpoke: journal: ")?;
-        reported.extend_from_slice(line)?;
-        reported.push(b'\n')?;
-        replays(&rt, name, &small, script, journal, (4, printed, &reported))?;
+fn an_event_that_may_not_come_is_named(rt: HostRuntime) -> Result<(), Fail> {
+    refuses(
+        &rt,
+        "old bytes after a request",
+        &BRANCH,
+        SWITCHED,
+        b"journal 1\nb\nw\ns\nt 0\na 0 0f1f440000\n",
+        (BEGINS, b"line 6"),
+    )?;
+    refuses(
+        &rt,
+        "old bytes after the handler",
+        &LOOP,
+        b"cpu f\nrun 1\ninc k\nrun 1\n",
+        b"journal 1\np 0\nb\nw\na 0 cc\nh 0\np 0\np 0\np 0\np 0\na 0 0f1f440000\n",
+        (b"update 1 begin 1\n0 401005 jmp 40100f\n", b"line 11"),
+    )?;
+    refuses(
+        &rt,
+        "torn bytes",
+        &CALL,
+        CALLED,
+        b"journal 1\nb\nw\ns\nt 0\nw\na 0 e809000000\n",
+        (BEGINS, b"line 7"),
+    )?;
+    refuses(
+        &rt,
+        "torn bytes at once",
+        &CALL,
+        CALLED,
+        b"journal 1\nb\nw\na 0 e809000000\n",
+        (BEGINS, b"line 4"),
+    )
+}
+
+/// What is wrong with a journal of the switch, the journal, what is printed, and the line that is refused.
+type Misspelt = (&'static str, &'static [u8], &'static [u8], &'static [u8]);
+
+/// Journals that have a line which is no event's, or lack one.
+const MISSPELT: &[Misspelt] = &[
+    ("an empty journal", b"", b"", b"line 1"),
+    (
+        "a space after the header",
+        b"journal 1 \nb\n",
+        b"",
+        b"line 1",
+    ),
+    ("another header", b"journal 01\nb\n", b"", b"line 1"),
+    (
+        "a header of another kind",
+        b"journal 2\nb\n",
+        b"",
+        b"line 1",
+    ),
+    ("a carriage return", b"journal 1\r\nb\n", b"", b"line 1"),
+    ("no line feed", b"journal 1", b"", b"line 1"),
+    ("a header alone", b"journal 1\n", b"", b"line 2"),
+    (
+        "upper case",
+        b"journal 1\nb\nw\na 0 0F1F440000\n",
+        BEGINS,
+        b"line 4",
+    ),
+    (
+        "ten bytes",
+        b"journal 1\nb\na 0 0f1f4400000f1f440000\n",
+        BEGINS,
+        b"line 3",
+    ),
+    (
+        "processor 16",
+        b"journal 1\nb\nw\nt 16\n",
+        BEGINS,
+        b"line 4",
+    ),
+    (
+        "a leading zero",
+        b"journal 1\nb\nw\ns\nt 00\n",
+        BEGINS,
+        b"line 5",
+    ),
+    (
+        "no line feed at the end",
+        b"journal 1\nb\nw",
+        BEGINS,
+        b"line 3",
+    ),
+];
+
+#[test]
+fn a_line_that_is_no_event_is_named(rt: HostRuntime) -> Result<(), Fail> {
+    for (name, journal, printed, line) in MISSPELT {
+        refuses(&rt, name, &BRANCH, SWITCHED, journal, (printed, line))?;
     }
     Ok(())
 }
