@@ -21,8 +21,11 @@ form_words Ret = codes "ret"
 form_words _ = codes "other"
 
 -- `C ADDR FORM`
+abbrev pub pass_words : ℕ → ℕ → Insn → List ℕ
+pass_words cpu at insn = decimal cpu ++ codes " " ++ hexadecimal at ++ codes " " ++ form_words insn
+
 abbrev pub pass_line : ℕ → ℕ → Insn → List ℕ
-pass_line cpu at insn = decimal cpu ++ codes " " ++ hexadecimal at ++ codes " " ++ form_words insn ++ 10 ∷ []
+pass_line cpu at insn = pass_words cpu at insn ++ 10 ∷ []
 
 -- `C out PP VV`: the port and the value
 abbrev pub out_line : ℕ → ℕ → ℕ → List ℕ

@@ -9,5 +9,5 @@ mod tests;
 mod turn;
 
 pub use cpu::Cpu;
-pub use lines::{put_mark, put_pass, put_stop};
+pub use lines::{put_mark, put_pass, put_pass_words, put_stop};
 pub use turn::{Stepped, TurnKind};

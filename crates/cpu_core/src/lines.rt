@@ -2,7 +2,7 @@
 ghost use Rattle.std.specs.Prelude.{◌≡◌, ◌≤◌, ◌+◌, ◌++◌, [], ◌∷◌, length};
 ghost use Rattle.arrayvec.specs.ArrayVec.{array_vec_len};
 ghost use Rattle.poke_base.specs.Number.{decimal, hexadecimal};
-ghost use Rattle.cpu_core.specs.Lines.{form_words, pass_line, out_line, fault_words, stop_line, mark_line};
+ghost use Rattle.cpu_core.specs.Lines.{form_words, pass_line, pass_words, out_line, fault_words, stop_line, mark_line};
 
 use poke_base::{Line, put_bytes, put_dec, put_hex, put_text};
 use x64_subset::{FaultKind, Insn, Life, Mark};
@@ -18,12 +18,23 @@ pub fn put_pass(line: &mut Line, cpu: u8, at: u64, insn: &Insn)
     ensures added { line.new.items ≡ line.old.items ++ pass_line cpu at insn.now }
     ensures short { length line.new.items ≤ length line.old.items + 42 }
 {
+    put_pass_words(line, cpu, at, insn);
+    put_text(line, b"\n");
+}
+
+/// Adds the words of that line, `C ADDR FORM`, without the line feed. The line has to have room for 41 bytes.
+#[tactic(auto, using(poke_base::proofs::Numbers::line_room))]
+pub fn put_pass_words(line: &mut Line, cpu: u8, at: u64, insn: &Insn)
+    requires known { cpu ≤ 15 }
+    requires room { array_vec_len line.old + 41 ≤ 96 }
+    ensures added { line.new.items ≡ line.old.items ++ pass_words cpu at insn.now }
+    ensures short { length line.new.items ≤ length line.old.items + 41 }
+{
     put_cpu(line, cpu);
     put_text(line, b" ");
     put_hex(line, at);
     put_text(line, b" ");
     put_form(line, insn);
-    put_text(line, b"\n");
 }
 
 /// Adds a processor's number, at most two digits.

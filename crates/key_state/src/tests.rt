@@ -161,6 +161,28 @@ fn commands_end_in_order(rt: HostRuntime) -> Result<(), Fail> {
         Command::Disable(key),
         Outcome::Count(2),
     );
+    Ok(())
+}
+
+#[test]
+fn a_count_goes_up_and_down(rt: HostRuntime) -> Result<(), Fail> {
+    let image = two_switches(&rt)?;
+    let key = image.key_named(KeyClass::Jump, b"k").expect(&rt, "k");
+    let mut settled = Settled::new(rt.alloc(), &image)?;
+    ends(
+        &rt,
+        &mut settled,
+        &image,
+        Command::Inc(key),
+        Outcome::Done(2),
+    );
+    ends(
+        &rt,
+        &mut settled,
+        &image,
+        Command::Inc(key),
+        Outcome::Done(0),
+    );
     ends(
         &rt,
         &mut settled,

@@ -9,6 +9,7 @@ ghost use Rattle.poke_base.specs.MemoryHost.{one_more};
 use crate::streams::{read_within, write_piece};
 use crate::{Host, ReadFail, WriteFail};
 use std::fs;
+use std::fs::OpenFile;
 use std::io::Write;
 use std::rt::{Files, HostRuntime, Stderr, Stdout};
 
@@ -86,6 +87,15 @@ impl<R: Files, O: Write, E: Write> RealHost<R, O, E> {
     }
 }
 
+/// How many bytes a read within a limit takes of a file, as far as the system tells the file's length: memory
+/// for so many is taken at once, so that it isn't doubled while a long file is read.
+fn wanted_len<F: OpenFile>(file: &F, limit: u64) -> usize {
+    match file.metadata() {
+        Ok(metadata) => metadata.len().min(limit.saturating_add(1)) as usize,
+        Err(_) => 0,
+    }
+}
+
 impl<R: Files + AllocGlobal, O: Write, E: Write> Host for RealHost<R, O, E> {
     ghost use Rattle.std.specs.Prelude.{[], IsSome, OnOk};
     ghost use Rattle.poke_base.specs.Host.{MakesFile, Appends, Prints, Complains};
@@ -98,6 +108,7 @@ impl<R: Files + AllocGlobal, O: Write, E: Write> Host for RealHost<R, O, E> {
         let Ok(mut file) = fs::open(&self.rt, name) else {
             return Err(self.read_fault());
         };
+        out.reserve_exact(wanted_len(&file, limit))?;
         match read_within(&mut file, limit, out) {
             Err(ReadFail::Failed) => Err(self.read_fault()),
             result => result,
@@ -197,6 +208,7 @@ mod tests {
                 "at {limit}"
             );
             assert_eq!(rt; Some(out.as_slice()), bytes.get(..count), "at {limit}");
+            assert_eq!(rt; out.capacity(), count, "at {limit}");
         }
         fs::remove_file(&rt, name.as_str())?;
         let mut nothing = Vec::new(alloc);

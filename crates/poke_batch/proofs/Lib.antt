@@ -1,6 +1,6 @@
 mod Examples
 mod Patches
-mod Chunks
+pub mod Chunks
 mod Stages
 mod Progresses
 mod ChunkPatches

@@ -3,10 +3,12 @@ ghost use Rattle.std.specs.Prelude.{◌≡◌};
 
 use crate::frame::words;
 use crate::modules::{TWO_SWITCHES, file};
+use live_engine::OpenGate;
 use poke_base::{AskedBy, Host, MemoryHost, NoMemory, ReadFail, WriteFail};
 use poke_tool::textpoke;
 use std::alloc::Global;
 use std::test::Fail;
+use std::thread::Threads;
 
 /// A host in memory, and the names that its calls were handed, in order.
 #[derive(Drop)]
@@ -87,7 +89,8 @@ fn the_one_name_is_asked(rt: HostRuntime) -> Result<(), Fail> {
     let alloc = rt.alloc();
     for (list, name, by) in rows {
         let mut host = AskedHost::new(alloc);
-        let _ = textpoke(alloc, &words(alloc, list)?, &mut host);
+        let list = words(alloc, list)?;
+        let _ = textpoke(&rt, &list, &mut host, &mut Vec::new(alloc), &OpenGate);
         let asked = host.asked();
         assert_eq!(rt; asked.len(), 1);
         assert_eq!(rt; asked[0].0.as_bytes(), name);
@@ -97,17 +100,18 @@ fn the_one_name_is_asked(rt: HostRuntime) -> Result<(), Fail> {
 }
 
 /// The host after `wants` on a module and a script that isn't there.
-fn after_wants(alloc: Global, module: &[u8]) -> Result<AskedHost, Fail> {
+fn after_wants<R: AllocGlobal + Threads + Sync>(rt: &R, module: &[u8]) -> Result<AskedHost, Fail> {
+    let alloc = rt.alloc();
     let mut host = AskedHost::new(alloc);
     host.put("m", module)?;
-    let _ = textpoke(alloc, &words(alloc, &["wants", "m", "s"])?, &mut host);
+    let list = words(alloc, &["wants", "m", "s"])?;
+    let _ = textpoke(rt, &list, &mut host, &mut Vec::new(alloc), &OpenGate);
     Ok(host)
 }
 
 #[test]
 fn the_script_is_asked_after_its_module(rt: HostRuntime) -> Result<(), Fail> {
-    let alloc = rt.alloc();
-    let host = after_wants(alloc, &file(alloc, &TWO_SWITCHES)?)?;
+    let host = after_wants(&rt, &file(rt.alloc(), &TWO_SWITCHES)?)?;
     let asked = host.asked();
     assert_eq!(rt; asked.len(), 2);
     assert_eq!(rt; asked[0].0.as_bytes(), b"m".as_slice());
@@ -119,7 +123,7 @@ fn the_script_is_asked_after_its_module(rt: HostRuntime) -> Result<(), Fail> {
 
 #[test]
 fn the_script_of_a_bad_module_is_not_asked(rt: HostRuntime) -> Result<(), Fail> {
-    let host = after_wants(rt.alloc(), b"no module")?;
+    let host = after_wants(&rt, b"no module")?;
     let asked = host.asked();
     assert_eq!(rt; asked.len(), 1);
     assert_eq!(rt; asked[0].0.as_bytes(), b"m".as_slice());

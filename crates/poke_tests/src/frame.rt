@@ -1,11 +1,13 @@
 //! What runs the rows of a table: a command over a host in memory, and what has to come of it.
 
 use crate::modules::{Place, Small, change, file};
+use live_engine::OpenGate;
 use poke_base::MemoryHost;
 use poke_tool::textpoke;
 use std::alloc::Global;
 use std::process::Abort;
 use std::test::Fail;
+use std::thread::Threads;
 
 /// A name, the words, the files before; the status, what is printed and what is reported.
 pub type Row<'a> = (
@@ -27,13 +29,14 @@ pub fn words(alloc: Global, list: &[&str]) -> Result<Vec<String>, Fail> {
 }
 
 /// Runs the words of a row over a host, and asserts what comes of it.
-pub fn run_over<R: Abort + AllocGlobal>(
+pub fn run_over<R: Abort + AllocGlobal + Threads + Sync>(
     rt: &R,
     host: &mut MemoryHost,
     row: &Row<'_>,
 ) -> Result<(), Fail> {
     let &(name, list, _, status, printed, reported) = row;
-    let answer = textpoke(rt.alloc(), &words(rt.alloc(), list)?, host);
+    let mut tracers = Vec::new(rt.alloc());
+    let answer = textpoke(rt, &words(rt.alloc(), list)?, host, &mut tracers, &OpenGate);
     assert_eq!(rt; host.complained(), reported, "{name}");
     assert_eq!(rt; host.printed(), printed, "{name}");
     assert_eq!(rt; answer, status, "{name}");
@@ -42,7 +45,7 @@ pub fn run_over<R: Abort + AllocGlobal>(
 
 /// Runs a row over a host with its files, whose call with this number fails where there is one, and
 /// asserts what comes of it. Answers the host.
-pub fn run_failing<R: Abort + AllocGlobal>(
+pub fn run_failing<R: Abort + AllocGlobal + Threads + Sync>(
     rt: &R,
     failing: Option<u64>,
     row: &Row<'_>,
@@ -59,7 +62,10 @@ pub fn run_failing<R: Abort + AllocGlobal>(
 }
 
 /// Runs a row over a host with its files, and asserts what comes of it. Answers the host.
-pub fn run<R: Abort + AllocGlobal>(rt: &R, row: &Row<'_>) -> Result<MemoryHost, Fail> {
+pub fn run<R: Abort + AllocGlobal + Threads + Sync>(
+    rt: &R,
+    row: &Row<'_>,
+) -> Result<MemoryHost, Fail> {
     run_failing(rt, None, row)
 }
 
@@ -68,7 +74,7 @@ pub type Failing<'a> = (u64, u8, &'a [u8], &'a [u8]);
 
 /// Runs a command on a file once for each row, and once where there is no such file, and asserts what
 /// comes of it. The first call of the host reads the file.
-pub fn run_failing_calls<R: Abort + AllocGlobal>(
+pub fn run_failing_calls<R: Abort + AllocGlobal + Threads + Sync>(
     rt: &R,
     words: &[&str],
     file: (&str, &[u8]),
@@ -84,21 +90,22 @@ pub fn run_failing_calls<R: Abort + AllocGlobal>(
 }
 
 /// The host after a command on a module, which is done and reports nothing.
-pub fn host_after<R: Abort + AllocGlobal>(
+pub fn host_after<R: Abort + AllocGlobal + Threads + Sync>(
     rt: &R,
     command: &str,
     module: &[u8],
 ) -> Result<MemoryHost, Fail> {
     let mut host = MemoryHost::new(rt.alloc());
     host.put("m", module)?;
-    let status = textpoke(rt.alloc(), &words(rt.alloc(), &[command, "m"])?, &mut host);
+    let list = words(rt.alloc(), &[command, "m"])?;
+    let status = textpoke(rt, &list, &mut host, &mut Vec::new(rt.alloc()), &OpenGate);
     assert_eq!(rt; host.complained(), b"".as_slice(), "{command}");
     assert_eq!(rt; status, 0, "{command}");
     Ok(host)
 }
 
 /// Asserts that `check` accepts a file and prints this.
-pub fn accepts_file<R: Abort + AllocGlobal>(
+pub fn accepts_file<R: Abort + AllocGlobal + Threads + Sync>(
     rt: &R,
     name: &str,
     file: &[u8],
@@ -112,7 +119,7 @@ pub fn accepts_file<R: Abort + AllocGlobal>(
 }
 
 /// Asserts that `check` refuses a file, and says why.
-pub fn refuses_file<R: Abort + AllocGlobal>(
+pub fn refuses_file<R: Abort + AllocGlobal + Threads + Sync>(
     rt: &R,
     name: &str,
     file: &[u8],
@@ -129,7 +136,7 @@ pub fn refuses_file<R: Abort + AllocGlobal>(
 }
 
 /// Asserts that `check` accepts a written module, some bytes of which were changed, and prints this.
-pub fn accepts<R: Abort + AllocGlobal>(
+pub fn accepts<R: Abort + AllocGlobal + Threads + Sync>(
     rt: &R,
     name: &str,
     small: &Small<'_>,
@@ -142,7 +149,7 @@ pub fn accepts<R: Abort + AllocGlobal>(
 }
 
 /// Asserts that `check` refuses a written module, some bytes of which were changed, and says why.
-pub fn refuses<R: Abort + AllocGlobal>(
+pub fn refuses<R: Abort + AllocGlobal + Threads + Sync>(
     rt: &R,
     name: &str,
     small: &Small<'_>,

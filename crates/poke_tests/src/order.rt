@@ -8,6 +8,7 @@ use elf_build::{KeyStart, PlanSite};
 use std::alloc::Global;
 use std::process::Abort;
 use std::test::Fail;
+use std::thread::Threads;
 
 #[test]
 fn sections_come_before_tables(rt: HostRuntime) -> Result<(), Fail> {
@@ -172,7 +173,7 @@ fn long_text(alloc: Global, plain: &[u8], last: u8) -> Result<Vec<u8>, Fail> {
 
 /// Asserts that `check` refuses such a text, whose jump leads to this target, and says why; a function has
 /// this name.
-fn refuses_long<R: Abort + AllocGlobal>(
+fn refuses_long<R: Abort + AllocGlobal + Threads + Sync>(
     rt: &R,
     text: &[u8],
     target: u64,

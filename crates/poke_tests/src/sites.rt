@@ -5,6 +5,7 @@ use crate::modules::{F, NO_FUNCTION, RETURN, Small, call, jump, tail};
 use elf_build::{KeyStart, PlanSite};
 use std::process::Abort;
 use std::test::Fail;
+use std::thread::Threads;
 
 /// The bytes of a NOP, of a load of 1 and of a call to what follows it, each with a return after it.
 const NOP: &[u8] = b"\x0f\x1fD\0\0\xc3";
@@ -17,7 +18,10 @@ const CALL: &[u8] = b"\xe8\0\0\0\0\xc3";
 type Row<'a> = (&'a str, &'a [u8], PlanSite, KeyStart, &'a [u8]);
 
 /// Asserts of each row that `check` accepts a module with that site and key, and prints this.
-fn accepts_each<R: Abort + AllocGlobal>(rt: &R, rows: &[Row<'_>]) -> Result<(), Fail> {
+fn accepts_each<R: Abort + AllocGlobal + Threads + Sync>(
+    rt: &R,
+    rows: &[Row<'_>],
+) -> Result<(), Fail> {
     for &(name, text, site, start, printed) in rows {
         let small = Small {
             text,

@@ -5,6 +5,7 @@ use crate::modules::{F, NO_FUNCTION, Place, RETURN, Small, TRACE, call, jump, ta
 use elf_build::{KeyStart, PlanSite};
 use std::process::Abort;
 use std::test::Fail;
+use std::thread::Threads;
 
 /// A name, a text without sites, and why it is refused.
 type Plain<'a> = (&'a str, &'a [u8], &'a [u8]);
@@ -13,7 +14,10 @@ type Plain<'a> = (&'a str, &'a [u8], &'a [u8]);
 type One<'a> = (&'a str, &'a [u8], PlanSite, KeyStart, &'a [u8]);
 
 /// Asserts of each text without sites that `check` refuses it, and says why.
-fn refuses_texts<R: Abort + AllocGlobal>(rt: &R, rows: &[Plain<'_>]) -> Result<(), Fail> {
+fn refuses_texts<R: Abort + AllocGlobal + Threads + Sync>(
+    rt: &R,
+    rows: &[Plain<'_>],
+) -> Result<(), Fail> {
     for &(name, text, why) in rows {
         refuses(rt, name, &Small { text, ..RETURN }, &[], why)?;
     }
@@ -21,7 +25,10 @@ fn refuses_texts<R: Abort + AllocGlobal>(rt: &R, rows: &[Plain<'_>]) -> Result<(
 }
 
 /// Asserts of each text with one site that `check` refuses it, and says why.
-pub fn refuses_sites<R: Abort + AllocGlobal>(rt: &R, rows: &[One<'_>]) -> Result<(), Fail> {
+pub fn refuses_sites<R: Abort + AllocGlobal + Threads + Sync>(
+    rt: &R,
+    rows: &[One<'_>],
+) -> Result<(), Fail> {
     for &(name, text, site, start, why) in rows {
         let small = Small {
             text,

@@ -6,6 +6,7 @@ use elf_build::{KeyStart, PlanSite};
 use poke_base::MemoryHost;
 use std::process::Abort;
 use std::test::Fail;
+use std::thread::Threads;
 
 /// A call of a tail call, whose key holds the function after it.
 const TAIL: Small<'static> = Small {
@@ -49,7 +50,7 @@ const COUNTS_TEXT: &[u8] = b"update 1 refused count 0\n\
     site 401002 jump e902000000\n";
 
 /// Runs `wants` on a module and a script, and asserts the status, what is printed and what is reported.
-fn wants<R: Abort + AllocGlobal>(
+fn wants<R: Abort + AllocGlobal + Threads + Sync>(
     rt: &R,
     name: &str,
     module: &[u8],

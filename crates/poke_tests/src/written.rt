@@ -5,9 +5,10 @@ use crate::modules::{BRANCH, F, Small, TWO_SWITCHES, call, file, file_of, jump, 
 use elf_build::KeyStart;
 use std::process::Abort;
 use std::test::Fail;
+use std::thread::Threads;
 
 /// Asserts of a module that its file has this size, and that `show` prints this of it.
-fn is_written<R: Abort + AllocGlobal>(
+fn is_written<R: Abort + AllocGlobal + Threads + Sync>(
     rt: &R,
     name: &str,
     small: &Small<'_>,

@@ -5,7 +5,6 @@ use Rattle.poke_base.specs.declared.host.AskedBy.TheVariants.{Read as AskedRead,
 use Rattle.poke_base.specs.Host.{Files, Outside, Rose, Tells, Adds, with_file, with_more}
 use Rattle.poke_base.specs.Text.{IsPrefix}
 use Rattle.poke_base.proofs.Outsides.{Tells-no_more, Tells-same, Tells-trans}
-use Rattle.tracer_ops.specs.Meaning.{Meaning}
 use Rattle.poke_tool.specs.declared.fault.Fault.{Fault}
 use Rattle.poke_tool.specs.declared.fault.Fault.TheVariants.{Words, Refused, Read, Write, Memory}
 use Rattle.poke_tool.specs.declared.fault.Refusal.{Refusal}
@@ -15,7 +14,7 @@ use Rattle.poke_tool.specs.Command.{Row, file_words}
 use Rattle.poke_tool.specs.Fault.{status_of, complaint_of, refusal_status}
 use Rattle.poke_tool.specs.RunCuts.{CutsRun, StopsBetween, StopsEarly}
 use Rattle.poke_tool.specs.Runs.{Concludes, Coupled, Cuts, DoesNamed, DoesSaying, Ends, FailsReading, FailsWriting, IsRead, LeavesAll, MadePart, MadeWhole, MakesNothing, MakesPrefix, RunsRow}
-use Rattle.poke_tool.specs.Saying.{IsModuleOf, MakeSays, Saying, Says, no_tracers, refused_status, saying_status, told_before, where_told}
+use Rattle.poke_tool.specs.Saying.{IsModuleOf, MakeSays, Saying, Says, refused_status, saying_status, told_before, where_told}
 use Rattle.poke_tool.specs.Endings.{AsksInOrder, EndsAloud, EndsMaking, EndsRefused, EndsSaying, MayBeCut, Reported}
 use Rattle.poke_tool.proofs.Asking.{LeavesAll-trans, MakesNothing-trans, added_later}
 use Rattle.poke_tool.proofs.Sayings.{IsLineOf, begins_less, cut_refused, says_alike, says_less, says_plain}
@@ -68,11 +67,12 @@ part_settled (Some file) old middle new nothing made = record { part = made.part
     files (inr made) = inr (Tells-trans _ middle.files new.files made nothing.files)
 
 -- what was cut before a report
-run_settled : (name : List ℕ) (tracers : List Meaning) (s : Saying) (old middle new : Outside) → LeavesAll middle new → CutsRun name tracers s old middle → CutsRun name tracers s old new
-run_settled name tracers s old middle new leaves cuts = record {
+run_settled : (name : List ℕ) (s : Saying) (old middle new : Outside) → LeavesAll middle new → CutsRun name s old middle → CutsRun name s old new
+run_settled name s old middle new leaves cuts = record {
   m = cuts.m;
   start = cuts.start;
   events = cuts.events;
+  tracers = cuts.tracers;
   tally = cuts.tally;
   is_tally = cuts.is_tally;
   text_is = cuts.text_is;
@@ -84,7 +84,7 @@ run_settled name tracers s old middle new leaves cuts = record {
     files_later part (inl same) = inl (Tells-trans old.files middle.files new.files same leaves.nothing.files)
     files_later part (inr made) = inr (Tells-trans _ middle.files new.files made leaves.nothing.files)
 
-    later : StopsEarly name old middle ⊎ StopsBetween cuts.m cuts.start cuts.events tracers name old middle → StopsEarly name old new ⊎ StopsBetween cuts.m cuts.start cuts.events tracers name old new
+    later : StopsEarly name old middle ⊎ StopsBetween cuts.m cuts.start cuts.events cuts.tracers name old middle → StopsEarly name old new ⊎ StopsBetween cuts.m cuts.start cuts.events cuts.tracers name old new
     later (inl early) = inl (record {
       part = early.part;
       prefix = early.prefix;
@@ -113,9 +113,10 @@ coupled_settled (command.Check file) s old middle new leaves coupled = tt
 coupled_settled (command.Make n file) s old middle new leaves coupled = tt
 coupled_settled (command.Wants module_file script_file) s old middle new leaves coupled = tt
 coupled_settled (command.Run module_file script_file journal_file seed) s old middle new leaves coupled =
-    run_settled journal_file no_tracers s old middle new leaves coupled
+    run_settled journal_file s old middle new leaves coupled
 coupled_settled (command.Replay module_file script_file journal_file) s old middle new leaves coupled = tt
 coupled_settled (command.Bench n seed) s old middle new leaves coupled = tt
+coupled_settled (command.Live module_file script_file turns seed) s old middle new leaves coupled = tt
 
 cuts_settled : (row : Row) (s : Saying) (old middle new : Outside) → LeavesAll middle new → Cuts row s old middle → Cuts row s old new
 cuts_settled row s old middle new leaves cuts = record {

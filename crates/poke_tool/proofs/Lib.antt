@@ -14,3 +14,5 @@ pub mod SomeTally
 pub mod ThreeFiles
 pub mod RunWays
 pub mod Headlines
+pub mod FeedWays
+pub mod LiveRuns

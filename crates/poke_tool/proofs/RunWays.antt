@@ -33,7 +33,7 @@ use Rattle.poke_tool.specs.Check.{Accepts, RefusesAsModule, elf_of}
 use Rattle.poke_tool.specs.Command.{Run, file_words}
 use Rattle.poke_tool.specs.RunCuts.{CutsRun, StopsBetween, StopsEarly}
 use Rattle.poke_tool.specs.Runs.{Asks, Does, MakesPrefix, PrintsPrefix, ReadsInput}
-use Rattle.poke_tool.specs.Saying.{RunSays, Says, says_both, no_tracers, told_before}
+use Rattle.poke_tool.specs.Saying.{RunSays, Says, says_both, told_before}
 use Rattle.poke_tool.specs.Script.{AcceptsScript, RefusesAsScript}
 use Rattle.poke_tool.specs.Scripted.{RunsAs, RunsScript}
 use Rattle.poke_tool.proofs.Asking.{Asks-makes, Asks-more, Asks-same, HasRead, added_later, made_later, made_with, still_told}
@@ -114,22 +114,23 @@ pub record ReadBoth (module_file script_file journal_file : List ℕ) (seed : �
   pub first : ReadsFirst (Run module_file script_file journal_file seed) module_file script_file old middle Accepts RefusesAsModule m
   pub second : ReadsInput middle between script_file (AcceptsScript m) (RefusesAsScript m) (Ok script)
 
-has_both : (module_file script_file journal_file : List ℕ) (seed : ℕ) (old middle between : Outside) (m : Module) (script : ScriptValue) → ReadBoth module_file script_file journal_file seed old middle between m script → HasRead (Run module_file script_file journal_file seed) 2 old between
+pub has_both : (module_file script_file journal_file : List ℕ) (seed : ℕ) (old middle between : Outside) (m : Module) (script : ScriptValue) → ReadBoth module_file script_file journal_file seed old middle between m script → HasRead (Run module_file script_file journal_file seed) 2 old between
 has_both module_file script_file journal_file seed old middle between m script both =
     both_read (Run module_file script_file journal_file seed) module_file script_file old middle between Accepts RefusesAsModule m (AcceptsScript m) (RefusesAsScript m) script both.first both.second
 
-holds_both : (module_file script_file journal_file : List ℕ) (seed : ℕ) (old middle between new : Outside) (m : Module) (script : ScriptValue) → ReadBoth module_file script_file journal_file seed old middle between m script → ((x : Files) → new.files ≡ Some x → IsSome between.files) → BothHold (told_before old new) module_file script_file Accepts m (AcceptsScript m) script
+pub holds_both : (module_file script_file journal_file : List ℕ) (seed : ℕ) (old middle between new : Outside) (m : Module) (script : ScriptValue) → ReadBoth module_file script_file journal_file seed old middle between m script → ((x : Files) → new.files ≡ Some x → IsSome between.files) → BothHold (told_before old new) module_file script_file Accepts m (AcceptsScript m) script
 holds_both module_file script_file journal_file seed old middle between new m script both still =
     both_hold (Run module_file script_file journal_file seed) module_file script_file old middle between new Accepts RefusesAsModule m (AcceptsScript m) (RefusesAsScript m) script both.first both.second still
 
 -- what they say is said of the events that the seed chooses
-run_says : (module_file script_file journal_file : List ℕ) (seed : ℕ) (told : Option Files) (m : Module) (script : ScriptValue) (events : List Event) (text : List ℕ) → BothHold told module_file script_file Accepts m (AcceptsScript m) script → IsRun m script seed events → IsWhole m (first m script) events no_tracers text → Says (Run module_file script_file journal_file seed) told (says_both 3 text journal_file (journal events))
-run_says module_file script_file journal_file seed told m script events text hold run whole = (hold.bytes, hold.holds, inr (m, hold.is, (hold.text, hold.holds_too, inr (script, hold.is_too, said))))
+run_says : (module_file script_file journal_file : List ℕ) (seed : ℕ) (told : Option Files) (m : Module) (script : ScriptValue) (events : List Event) (tracers : List Meaning) (text : List ℕ) → BothHold told module_file script_file Accepts m (AcceptsScript m) script → IsRun m script seed events → IsWhole m (first m script) events tracers text → Says (Run module_file script_file journal_file seed) told (says_both 3 text journal_file (journal events))
+run_says module_file script_file journal_file seed told m script events tracers text hold run whole = (hold.bytes, hold.holds, inr (m, hold.is, (hold.text, hold.holds_too, inr (script, hold.is_too, said))))
   where
-    said : RunSays journal_file seed no_tracers m script (says_both 3 text journal_file (journal events))
+    said : RunSays journal_file seed m script (says_both 3 text journal_file (journal events))
     said = record {
       events = events;
       run = run;
+      tracers = tracers;
       tally = whole.tally;
       is_tally = whole.is_tally;
       is = ap (λ (shown : List ℕ). says_both 3 shown journal_file (journal events)) whole.is;
@@ -150,7 +151,7 @@ pub record ARun (m : Module) (script : ScriptValue) (seed : ℕ) : Type 0 where
   pub events : List Event
   pub run : IsRun m script seed events
 
-a_run : (told : Option Files) (module_file script_file : List ℕ) (m : Module) (script : ScriptValue) (seed : ℕ) → BothHold told module_file script_file Accepts m (AcceptsScript m) script → ARun m script seed
+pub a_run : (told : Option Files) (module_file script_file : List ℕ) (m : Module) (script : ScriptValue) (seed : ℕ) → BothHold told module_file script_file Accepts m (AcceptsScript m) script → ARun m script seed
 a_run told module_file script_file m script seed hold =
     let accepted : IsAccepted m = record { elf = elf_of hold.bytes; is = hold.is.is_module } in
     let there = runs_are_there m script seed accepted hold.is_too.of in
@@ -164,7 +165,7 @@ SaysRun module_file script_file journal_file seed old new text bytes =
     Says (Run module_file script_file journal_file seed) (told_before old new) (says_both 3 text journal_file bytes)
 
 -- a write failed: so much is left
-cut_off : (module_file script_file journal_file : List ℕ) (seed : ℕ) (old new : Outside) (text bytes : List ℕ) → Asks (take 3 (file_words (Run module_file script_file journal_file seed))) old new → Rose old.write_faults new.write_faults → SaysRun module_file script_file journal_file seed old new text bytes → PrintsPrefix old new text → MakesPrefix old new journal_file bytes → CutsRun journal_file no_tracers (says_both 3 text journal_file bytes) old new → Does (Run module_file script_file journal_file seed) old new (Err Write)
+cut_off : (module_file script_file journal_file : List ℕ) (seed : ℕ) (old new : Outside) (text bytes : List ℕ) → Asks (take 3 (file_words (Run module_file script_file journal_file seed))) old new → Rose old.write_faults new.write_faults → SaysRun module_file script_file journal_file seed old new text bytes → PrintsPrefix old new text → MakesPrefix old new journal_file bytes → CutsRun journal_file (says_both 3 text journal_file bytes) old new → Does (Run module_file script_file journal_file seed) old new (Err Write)
 cut_off module_file script_file journal_file seed old new text bytes asks rose says printed made coupled = record {
   names = 3;
   asks = asks;
@@ -181,11 +182,12 @@ cut_off module_file script_file journal_file seed old new text bytes asks rose s
 }
 
 -- how far journal and trace went together, of a text and a journal that are those of events
-coupled_as : (m : Module) (start : State) (events : List Event) (tracers : List Meaning) (name text bytes : List ℕ) (old new : Outside) → IsWhole m start events tracers text → bytes ≡ journal events → StopsEarly name old new ⊎ StopsBetween m start events tracers name old new → CutsRun name tracers (says_both 3 text name bytes) old new
+coupled_as : (m : Module) (start : State) (events : List Event) (tracers : List Meaning) (name text bytes : List ℕ) (old new : Outside) → IsWhole m start events tracers text → bytes ≡ journal events → StopsEarly name old new ⊎ StopsBetween m start events tracers name old new → CutsRun name (says_both 3 text name bytes) old new
 coupled_as m start events tracers name text bytes old new whole same_bytes stops = record {
   m = m;
   start = start;
   events = events;
+  tracers = tracers;
   tally = whole.tally;
   is_tally = whole.is_tally;
   text_is = whole.is;
@@ -194,39 +196,42 @@ coupled_as m start events tracers name text bytes old new whole same_bytes stops
 }
 
 -- what is left where nothing was printed and the file holds a prefix of the header, or is as before
-run_stops_early : (module_file script_file journal_file : List ℕ) (seed : ℕ) (old new : Outside) (m : Module) (script : ScriptValue) (events : List Event) (text part : List ℕ) → Asks (take 3 (file_words (Run module_file script_file journal_file seed))) old new → IsPrefix part header → Tells old.files new.files ⊎ Tells (with_file old.files journal_file part) new.files → Tells old.printed new.printed → Rose old.write_faults new.write_faults → IsWhole m (first m script) events no_tracers text → SaysRun module_file script_file journal_file seed old new text (journal events) → Does (Run module_file script_file journal_file seed) old new (Err Write)
-run_stops_early module_file script_file journal_file seed old new m script events text part asks prefix files printed rose whole says =
+run_stops_early : (module_file script_file journal_file : List ℕ) (seed : ℕ) (old new : Outside) (m : Module) (script : ScriptValue) (events : List Event) (tracers : List Meaning) (text part : List ℕ) → Asks (take 3 (file_words (Run module_file script_file journal_file seed))) old new → IsPrefix part header → Tells old.files new.files ⊎ Tells (with_file old.files journal_file part) new.files → Tells old.printed new.printed → Rose old.write_faults new.write_faults → IsWhole m (first m script) events tracers text → SaysRun module_file script_file journal_file seed old new text (journal events) → Does (Run module_file script_file journal_file seed) old new (Err Write)
+run_stops_early module_file script_file journal_file seed old new m script events tracers text part asks prefix files printed rose whole says =
     cut_off module_file script_file journal_file seed old new text (journal events) asks rose says
     (record { part = []; prefix = refl; printed = Tells-trans _ old.printed new.printed (Tells-no_more old.printed) printed })
     (record { part = part; prefix = header_part events part prefix; files = files })
-    (coupled_as m (first m script) events no_tracers journal_file text _ old new whole refl (inl (record { part = part; prefix = prefix; files = files; printed = printed })))
+    (coupled_as m (first m script) events tracers journal_file text _ old new whole refl (inl (record { part = part; prefix = prefix; files = files; printed = printed })))
 
 -- the journal wasn't made
-still_unmade : (between new : Option Files) (name : List ℕ) → Tells between new ⊎ Tells (with_file between name []) new → (x : Files) → new ≡ Some x → IsSome between
+pub still_unmade : (between new : Option Files) (name : List ℕ) → Tells between new ⊎ Tells (with_file between name []) new → (x : Files) → new ≡ Some x → IsSome between
 still_unmade between new name (inl same) x e = still_told between new same x e
 still_unmade None new name (inr made) x e = let none = made.told x e in absurd (cc)
 still_unmade (Some files) new name (inr made) x e = refl
+
+pub unmade_files : (module_file script_file journal_file : List ℕ) (seed : ℕ) (old middle between new : Outside) (m : Module) (script : ScriptValue) → ReadBoth module_file script_file journal_file seed old middle between m script → Tells between.files new.files ⊎ Tells (with_file between.files journal_file []) new.files → Tells old.files new.files ⊎ Tells (with_file old.files journal_file []) new.files
+unmade_files module_file script_file journal_file seed old middle between new m script both files = by files
+  where
+    before : Tells old.files between.files
+    before = (has_both module_file script_file journal_file seed old middle between m script both).leaves.nothing.files
+
+    by : Tells between.files new.files ⊎ Tells (with_file between.files journal_file []) new.files → Tells old.files new.files ⊎ Tells (with_file old.files journal_file []) new.files
+    by (inl same) = inl (Tells-trans old.files between.files new.files before same)
+    by (inr made) = inr (made_later old.files between.files new.files journal_file [] before made)
 
 pub run_unmade : (module_file script_file journal_file : List ℕ) (seed : ℕ) (old middle between new : Outside) (m : Module) (script : ScriptValue) (why : WriteFail) → ReadBoth module_file script_file journal_file seed old middle between m script → MakesFile {T = Unit {0}} {E = WriteFail} between new journal_file (Err why) → Does (Run module_file script_file journal_file seed) old new (Err Write)
 run_unmade module_file script_file journal_file seed old middle between new m script why both makes =
     let has = has_both module_file script_file journal_file seed old middle between m script both in
     let hold = holds_both module_file script_file journal_file seed old middle between new m script both (still_unmade between.files new.files journal_file makes.not_made) in
     let some = a_run (told_before old new) module_file script_file m script seed hold in
-    let told = a_whole m (first m script) some.events no_tracers in
-    run_stops_early module_file script_file journal_file seed old new m script some.events told.whole []
+    let told = a_whole m (first m script) some.events [] in
+    run_stops_early module_file script_file journal_file seed old new m script some.events [] told.whole []
     (Asks-more (take 2 (file_words (Run module_file script_file journal_file seed))) ((journal_file, AskedMake) ∷ []) old between new has.asks (Asks-makes between new journal_file (Err why) makes))
-    refl (left makes.not_made)
+    refl (unmade_files module_file script_file journal_file seed old middle between new m script both makes.not_made)
     (Tells-trans old.printed between.printed new.printed has.leaves.printed makes.printed)
     (Rose-later old.write_faults between.write_faults new.write_faults has.asks.write_faults makes.failed)
     told.is_whole
-    (run_says module_file script_file journal_file seed (told_before old new) m script some.events told.whole hold some.run told.is_whole)
-  where
-    before : Tells old.files between.files
-    before = (has_both module_file script_file journal_file seed old middle between m script both).leaves.nothing.files
-
-    left : Tells between.files new.files ⊎ Tells (with_file between.files journal_file []) new.files → Tells old.files new.files ⊎ Tells (with_file old.files journal_file []) new.files
-    left (inl same) = inl (Tells-trans old.files between.files new.files before same)
-    left (inr made) = inr (made_later old.files between.files new.files journal_file [] before made)
+    (run_says module_file script_file journal_file seed (told_before old new) m script some.events [] told.whole hold some.run told.is_whole)
 
 -- ---- it was made, and then it ran
 
@@ -235,13 +240,13 @@ pub record Made (module_file script_file journal_file : List ℕ) (seed : ℕ) (
   pub makes : MakesFile {T = Unit {0}} {E = WriteFail} between made journal_file (Ok tt)
 
 -- what the file holds after so much was appended
-filed_now : (module_file script_file journal_file : List ℕ) (seed : ℕ) (old middle between made new : Outside) (m : Module) (script : ScriptValue) (filed text : List ℕ) → Made module_file script_file journal_file seed old middle between made m script → Puts made new filed text → Tells (with_file old.files journal_file filed) new.files
+pub filed_now : (module_file script_file journal_file : List ℕ) (seed : ℕ) (old middle between made new : Outside) (m : Module) (script : ScriptValue) (filed text : List ℕ) → Made module_file script_file journal_file seed old middle between made m script → Puts made new filed text → Tells (with_file old.files journal_file filed) new.files
 filed_now module_file script_file journal_file seed old middle between made new m script filed text h puts =
     let has = has_both module_file script_file journal_file seed old middle between m script h.both in
     made_with old.files made new journal_file filed h.makes.making
     (made_later old.files between.files made.files journal_file [] has.leaves.nothing.files h.makes.made) puts.files
 
-printed_now : (module_file script_file journal_file : List ℕ) (seed : ℕ) (old middle between made new : Outside) (m : Module) (script : ScriptValue) (filed text : List ℕ) → Made module_file script_file journal_file seed old middle between made m script → Puts made new filed text → Tells (with_more old.printed text) new.printed
+pub printed_now : (module_file script_file journal_file : List ℕ) (seed : ℕ) (old middle between made new : Outside) (m : Module) (script : ScriptValue) (filed text : List ℕ) → Made module_file script_file journal_file seed old middle between made m script → Puts made new filed text → Tells (with_more old.printed text) new.printed
 printed_now module_file script_file journal_file seed old middle between made new m script filed text h puts =
     let has = has_both module_file script_file journal_file seed old middle between m script h.both in
     added_later old.printed made.printed new.printed text (Tells-trans old.printed between.printed made.printed has.leaves.printed h.makes.printed) puts.printed
@@ -258,7 +263,7 @@ still_filed : (old : Option Files) (new : Option Files) (name filed : List ℕ) 
 still_filed None new name filed tells x e = let none = tells.told x e in absurd (cc)
 still_filed (Some files) new name filed tells x e = refl
 
-still_made : (module_file script_file journal_file : List ℕ) (seed : ℕ) (old middle between made new : Outside) (m : Module) (script : ScriptValue) (filed text : List ℕ) → Made module_file script_file journal_file seed old middle between made m script → Puts made new filed text → (x : Files) → new.files ≡ Some x → IsSome between.files
+pub still_made : (module_file script_file journal_file : List ℕ) (seed : ℕ) (old middle between made new : Outside) (m : Module) (script : ScriptValue) (filed text : List ℕ) → Made module_file script_file journal_file seed old middle between made m script → Puts made new filed text → (x : Files) → new.files ≡ Some x → IsSome between.files
 still_made module_file script_file journal_file seed old middle between made new m script filed text h puts =
     still_filed between.files new.files journal_file filed
     (made_with between.files made new journal_file filed h.makes.making h.makes.made puts.files)
@@ -267,6 +272,37 @@ rose_now : (module_file script_file journal_file : List ℕ) (seed : ℕ) (old m
 rose_now module_file script_file journal_file seed old middle between made new m script h rose =
     let has = has_both module_file script_file journal_file seed old middle between m script h.both in
     Rose-later old.write_faults made.write_faults new.write_faults (let before = has.asks.write_faults in let then = h.makes.write_faults in omega (arith, before, then)) rose
+
+-- what stands in the file and was printed where a write failed
+pub stops_early : (module_file script_file journal_file : List ℕ) (seed : ℕ) (old middle between made new : Outside) (m : Module) (script : ScriptValue) (tracers left : List Meaning) → Made module_file script_file journal_file seed old middle between made m script → HeaderIsCut tracers left made new → StopsEarly journal_file old new
+stops_early module_file script_file journal_file seed old middle between made new m script tracers left h early = record {
+  part = early.part;
+  prefix = early.prefix;
+  files = inr (filed_now module_file script_file journal_file seed old middle between made new m script early.part [] h early.puts);
+  printed =
+      subst (λ (o : Option (List ℕ)). Tells o new.printed) (more_none old.printed)
+      (printed_now module_file script_file journal_file seed old middle between made new m script early.part [] h early.puts);
+}
+  where
+    more_none : (told : Option (List ℕ)) → with_more told [] ≡ told
+    more_none None = refl
+    more_none (Some text) = ap Some (append-nil text)
+
+abbrev pub stops_between : (module_file script_file journal_file : List ℕ) (seed : ℕ) (old middle between made new : Outside) (m : Module) (script : ScriptValue) (events : List Event) (tracers left : List Meaning) → Made module_file script_file journal_file seed old middle between made m script → IsCut m (first m script) events tracers left made new → StopsBetween m (first m script) events tracers journal_file old new
+stops_between module_file script_file journal_file seed old middle between made new m script events tracers left h cut = record {
+  done = cut.done;
+  rest = cut.rest;
+  whole = cut.whole;
+  filed = cut.filed;
+  next = cut.next;
+  text = cut.text;
+  filed_prefix = cut.filed_prefix;
+  is_next = cut.is_next;
+  text_prefix = cut.text_prefix;
+  in_order = cut.in_order;
+  files = filed_now module_file script_file journal_file seed old middle between made new m script (journal cut.done ++ cut.filed) (events_text m (first m script) cut.done ++ cut.text) h cut.puts;
+  printed = printed_now module_file script_file journal_file seed old middle between made new m script (journal cut.done ++ cut.filed) (events_text m (first m script) cut.done ++ cut.text) h cut.puts;
+}
 
 -- it ran to the end, whatever was written and printed
 run_done : (module_file script_file journal_file : List ℕ) (seed : ℕ) (old new : Outside) (text bytes : List ℕ) → Asks (take 3 (file_words (Run module_file script_file journal_file seed))) old new → SaysRun module_file script_file journal_file seed old new text bytes → Tells (with_more old.printed text) new.printed → Tells (with_file old.files journal_file bytes) new.files → Does (Run module_file script_file journal_file seed) old new (Ok tt)
@@ -285,28 +321,24 @@ run_done module_file script_file journal_file seed old new text bytes asks says 
 }
 
 -- it ran to the end, or a write failed
-pub runs_said : (module_file script_file journal_file : List ℕ) (seed : ℕ) (old middle between made new : Outside) (m : Module) (script : ScriptValue) (left : List Meaning) (result : Result (Unit {0}) RunFault) → Made module_file script_file journal_file seed old middle between made m script → RunDoes m script seed no_tracers left made new result → Does (Run module_file script_file journal_file seed) old new (after_run result)
-runs_said module_file script_file journal_file seed old middle between made new m script left result h does = by result does
+pub runs_said : (module_file script_file journal_file : List ℕ) (seed : ℕ) (old middle between made new : Outside) (m : Module) (script : ScriptValue) (tracers left : List Meaning) (result : Result (Unit {0}) RunFault) → Made module_file script_file journal_file seed old middle between made m script → RunDoes m script seed tracers left made new result → Does (Run module_file script_file journal_file seed) old new (after_run result)
+runs_said module_file script_file journal_file seed old middle between made new m script tracers left result h does = by result does
   where
-    says : (filed shown : List ℕ) → Puts made new filed shown → (events : List Event) (text : List ℕ) → IsRun m script seed events → IsWhole m (first m script) events no_tracers text → Says (Run module_file script_file journal_file seed) (told_before old new) (says_both 3 text journal_file (journal events))
+    says : (filed shown : List ℕ) → Puts made new filed shown → (events : List Event) (text : List ℕ) → IsRun m script seed events → IsWhole m (first m script) events tracers text → Says (Run module_file script_file journal_file seed) (told_before old new) (says_both 3 text journal_file (journal events))
     says filed shown puts events text run whole =
-        run_says module_file script_file journal_file seed (told_before old new) m script events text
+        run_says module_file script_file journal_file seed (told_before old new) m script events tracers text
         (holds_both module_file script_file journal_file seed old middle between new m script h.both (still_made module_file script_file journal_file seed old middle between made new m script filed shown h puts)) run whole
 
-    early_cut : (events : List Event) → IsRun m script seed events → Rose made.write_faults new.write_faults → HeaderIsCut no_tracers left made new → Does (Run module_file script_file journal_file seed) old new (Err Write)
+    early_cut : (events : List Event) → IsRun m script seed events → Rose made.write_faults new.write_faults → HeaderIsCut tracers left made new → Does (Run module_file script_file journal_file seed) old new (Err Write)
     early_cut events run rose early =
-        let some = a_whole m (first m script) events no_tracers in
-        run_stops_early module_file script_file journal_file seed old new m script events some.whole early.part
+        let some = a_whole m (first m script) events tracers in
+        let stops = stops_early module_file script_file journal_file seed old middle between made new m script tracers left h early in
+        run_stops_early module_file script_file journal_file seed old new m script events tracers some.whole stops.part
         (asks_now module_file script_file journal_file seed old middle between made new m script early.part [] h early.puts)
-        early.prefix (inr (filed_now module_file script_file journal_file seed old middle between made new m script early.part [] h early.puts))
-        (subst (λ (o : Option (List ℕ)). Tells o new.printed) (more_none old.printed) (printed_now module_file script_file journal_file seed old middle between made new m script early.part [] h early.puts))
+        stops.prefix stops.files stops.printed
         (rose_now module_file script_file journal_file seed old middle between made new m script h rose) some.is_whole (says early.part [] early.puts events some.whole run some.is_whole)
-      where
-        more_none : (told : Option (List ℕ)) → with_more told [] ≡ told
-        more_none None = refl
-        more_none (Some text) = ap Some (append-nil text)
 
-    late_cut : (events : List Event) → IsRun m script seed events → Rose made.write_faults new.write_faults → (cut : IsCut m (first m script) events no_tracers left made new) → Begun m (first m script) events no_tracers (events_text m (first m script) cut.done ++ cut.text) → Does (Run module_file script_file journal_file seed) old new (Err Write)
+    late_cut : (events : List Event) → IsRun m script seed events → Rose made.write_faults new.write_faults → (cut : IsCut m (first m script) events tracers left made new) → Begun m (first m script) events tracers (events_text m (first m script) cut.done ++ cut.text) → Does (Run module_file script_file journal_file seed) old new (Err Write)
     late_cut events run rose cut begun =
         let filed : List ℕ = journal cut.done ++ cut.filed in
         let shown : List ℕ = events_text m (first m script) cut.done ++ cut.text in
@@ -322,30 +354,17 @@ runs_said module_file script_file journal_file seed old middle between made new 
           prefix = subst (λ (es : List Event). IsPrefix filed (journal es)) cut.whole (journal_part cut.done cut.rest cut.filed cut.filed_prefix);
           files = inr files;
         })
-        (coupled_as m (first m script) events no_tracers journal_file begun.whole _ old new begun.is_whole refl
-        (inr (record {
-          done = cut.done;
-          rest = cut.rest;
-          whole = cut.whole;
-          filed = cut.filed;
-          next = cut.next;
-          text = cut.text;
-          filed_prefix = cut.filed_prefix;
-          is_next = cut.is_next;
-          text_prefix = cut.text_prefix;
-          in_order = cut.in_order;
-          files = files;
-          printed = printed;
-        })))
+        (coupled_as m (first m script) events tracers journal_file begun.whole _ old new begun.is_whole refl
+        (inr (stops_between module_file script_file journal_file seed old middle between made new m script events tracers left h cut)))
 
-    cut_somewhere : (events : List Event) → IsRun m script seed events → Rose made.write_faults new.write_faults → HeaderIsCut no_tracers left made new ⊎ IsCut m (first m script) events no_tracers left made new → Does (Run module_file script_file journal_file seed) old new (Err Write)
+    cut_somewhere : (events : List Event) → IsRun m script seed events → Rose made.write_faults new.write_faults → HeaderIsCut tracers left made new ⊎ IsCut m (first m script) events tracers left made new → Does (Run module_file script_file journal_file seed) old new (Err Write)
     cut_somewhere events run rose (inl early) = early_cut events run rose early
     cut_somewhere events run rose (inr cut) =
         late_cut events run rose cut
-        (subst (λ (es : List Event). Begun m (first m script) es no_tracers (events_text m (first m script) cut.done ++ cut.text)) cut.whole
-        (text_part m (first m script) no_tracers cut.done cut.rest cut.next cut.text cut.is_next cut.text_prefix))
+        (subst (λ (es : List Event). Begun m (first m script) es tracers (events_text m (first m script) cut.done ++ cut.text)) cut.whole
+        (text_part m (first m script) tracers cut.done cut.rest cut.next cut.text cut.is_next cut.text_prefix))
 
-    ran : (events : List Event) (text : List ℕ) → IsRun m script seed events → IsWhole m (first m script) events no_tracers text → Puts made new (journal events) text → Does (Run module_file script_file journal_file seed) old new (Ok tt)
+    ran : (events : List Event) (text : List ℕ) → IsRun m script seed events → IsWhole m (first m script) events tracers text → Puts made new (journal events) text → Does (Run module_file script_file journal_file seed) old new (Ok tt)
     ran events text run whole puts =
         run_done module_file script_file journal_file seed old new text (journal events)
         (asks_now module_file script_file journal_file seed old middle between made new m script _ _ h puts)
@@ -353,7 +372,7 @@ runs_said module_file script_file journal_file seed old middle between made new 
         (printed_now module_file script_file journal_file seed old middle between made new m script _ _ h puts)
         (filed_now module_file script_file journal_file seed old middle between made new m script _ _ h puts)
 
-    by : (result : Result (Unit {0}) RunFault) → RunDoes m script seed no_tracers left made new result → Does (Run module_file script_file journal_file seed) old new (after_run result)
+    by : (result : Result (Unit {0}) RunFault) → RunDoes m script seed tracers left made new result → Does (Run module_file script_file journal_file seed) old new (after_run result)
     by (Ok done) does =
         ran does.events (trace m (first m script) does.events ++ does.tally) does.run
         (record { tally = does.tally; is_tally = does.is_tally; is = refl }) does.puts
@@ -361,14 +380,14 @@ runs_said module_file script_file journal_file seed old middle between made new 
     by (Err (LineStop line)) does = absurd does
 
 -- the same, as the fault of the command, or the journal wasn't made, or there was no memory
-pub runs_as : (module_file script_file journal_file : List ℕ) (seed : ℕ) (old middle between new : Outside) (m : Module) (script : ScriptValue) (result : Result (Unit {0}) Fault) → ReadBoth module_file script_file journal_file seed old middle between m script → RunsAs m script journal_file seed no_tracers between new result → Does (Run module_file script_file journal_file seed) old new result
-runs_as module_file script_file journal_file seed old middle between new m script result both did = by result did
+pub runs_as : (module_file script_file journal_file : List ℕ) (seed : ℕ) (old middle between new : Outside) (m : Module) (script : ScriptValue) (tracers left : List Meaning) (result : Result (Unit {0}) Fault) → ReadBoth module_file script_file journal_file seed old middle between m script → RunsAs m script journal_file seed tracers left between new result → Does (Run module_file script_file journal_file seed) old new result
+runs_as module_file script_file journal_file seed old middle between new m script tracers left result both did = by result did
   where
-    ran : (result : Result (Unit {0}) RunFault) → RunsScript m script journal_file seed no_tracers between new result → Does (Run module_file script_file journal_file seed) old new (after_run result)
+    ran : (result : Result (Unit {0}) RunFault) → RunsScript m script journal_file seed tracers left between new result → Does (Run module_file script_file journal_file seed) old new (after_run result)
     ran result runs =
-        runs_said module_file script_file journal_file seed old middle between runs.made new m script runs.left result (record { both = both; makes = runs.makes }) runs.runs
+        runs_said module_file script_file journal_file seed old middle between runs.made new m script tracers left result (record { both = both; makes = runs.makes }) runs.runs
 
-    by : (result : Result (Unit {0}) Fault) → RunsAs m script journal_file seed no_tracers between new result → Does (Run module_file script_file journal_file seed) old new result
+    by : (result : Result (Unit {0}) Fault) → RunsAs m script journal_file seed tracers left between new result → Does (Run module_file script_file journal_file seed) old new result
     by (Ok done) runs = ran (Ok tt) runs
     by (Err Words) none = absurd none
     by (Err (Refused why)) none = absurd none
@@ -376,26 +395,25 @@ runs_as module_file script_file journal_file seed old middle between new m scrip
     by (Err Write) (inl none) = run_unmade module_file script_file journal_file seed old middle between new m script none.why both none.makes
     by (Err Write) (inr runs) = ran (Err WriteStop) runs
     by (Err Memory) same =
-        subst (λ (o : Outside). Does (Run module_file script_file journal_file seed) old o (Err Memory)) (sym same)
+        subst (λ (o : Outside). Does (Run module_file script_file journal_file seed) old o (Err Memory)) (sym same.0)
         (both_lack (Run module_file script_file journal_file seed) module_file script_file old middle between Accepts RefusesAsModule m (AcceptsScript m) (RefusesAsScript m) script both.first both.second)
 
--- what a world that is new does is said of its module and script, as the fault of the command
-pub run_done_as : (m n : Module) (script other : ScriptValue) (journal_file : List ℕ) (seed words : ℕ) (handed tracers left : List Meaning) (old made new : Outside) (result : Result (Unit {0}) RunFault) → m ≡ n → script ≡ other → words ≡ seed → handed ≡ tracers → MakesFile {T = Unit {0}} {E = WriteFail} old made journal_file (Ok tt) → RunDoes m script words handed left made new result → RunsAs n other journal_file seed tracers old new (after_run result)
-run_done_as m n script other journal_file seed words handed tracers left old made new result same_module same_script same_words same_tracers makes does = by result moved
+-- what a run answers, as the fault of the command
+pub run_answers : (m : Module) (script : ScriptValue) (journal_file : List ℕ) (seed words : ℕ) (tracers left : List Meaning) (old made new : Outside) (result : Result (Unit {0}) RunFault) → words ≡ seed → MakesFile {T = Unit {0}} {E = WriteFail} old made journal_file (Ok tt) → RunDoes m script words tracers left made new result → RunsAs m script journal_file seed tracers left old new (after_run result)
+run_answers m script journal_file seed words tracers left old made new result same_words makes does = by result (subst (λ (x : ℕ). RunDoes m script x tracers left made new result) same_words does)
   where
-    moved : RunDoes n other seed tracers left made new result
-    moved =
-        subst (λ (x : Module). RunDoes x other seed tracers left made new result) same_module
-        (subst (λ (x : ScriptValue). RunDoes m x seed tracers left made new result) same_script
-        (subst (λ (x : ℕ). RunDoes m script x tracers left made new result) same_words
-        (subst (λ (x : List Meaning). RunDoes m script words x left made new result) same_tracers does)))
-
-    by : (result : Result (Unit {0}) RunFault) → RunDoes n other seed tracers left made new result → RunsAs n other journal_file seed tracers old new (after_run result)
-    by (Ok done) does = record { made = made; makes = makes; left = left; runs = does }
-    by (Err WriteStop) does = inr (record { made = made; makes = makes; left = left; runs = does })
+    by : (result : Result (Unit {0}) RunFault) → RunDoes m script seed tracers left made new result → RunsAs m script journal_file seed tracers left old new (after_run result)
+    by (Ok done) does = record { made = made; makes = makes; runs = does }
+    by (Err WriteStop) does = inr (record { made = made; makes = makes; runs = does })
     by (Err (LineStop line)) does = absurd does
 
-pub runs_exit : (m : Module) (script : ScriptValue) (journal_file : List ℕ) (seed : ℕ) (tracers : List Meaning) (old new : Outside) (fault : Fault) (result : Result (Unit {0}) Fault) → IsErrAnd result (λ e. e ≡ fault) → RunsAs m script journal_file seed tracers old new (Err fault) → RunsAs m script journal_file seed tracers old new result
-runs_exit m script journal_file seed tracers old new fault result is did =
+-- what a world that is new does is said of its module and script
+pub run_said : (m n : Module) (script other : ScriptValue) (journal_file : List ℕ) (seed : ℕ) (tracers left : List Meaning) (old new : Outside) (result : Result (Unit {0}) Fault) → m ≡ n → script ≡ other → RunsAs m script journal_file seed tracers left old new result → RunsAs n other journal_file seed tracers left old new result
+run_said m n script other journal_file seed tracers left old new result same_module same_script did =
+    subst (λ (x : Module). RunsAs x other journal_file seed tracers left old new result) same_module
+    (subst (λ (x : ScriptValue). RunsAs m x journal_file seed tracers left old new result) same_script did)
+
+pub runs_exit : (m : Module) (script : ScriptValue) (journal_file : List ℕ) (seed : ℕ) (tracers left : List Meaning) (old new : Outside) (fault : Fault) (result : Result (Unit {0}) Fault) → IsErrAnd result (λ e. e ≡ fault) → RunsAs m script journal_file seed tracers left old new (Err fault) → RunsAs m script journal_file seed tracers left old new result
+runs_exit m script journal_file seed tracers left old new fault result is did =
     let p = err_from_is_err_and result is in
-    subst (λ (r : Result (Unit {0}) Fault). RunsAs m script journal_file seed tracers old new r) (sym p.1) (subst (λ (f : Fault). RunsAs m script journal_file seed tracers old new (Err f)) (sym p.2) did)
+    subst (λ (r : Result (Unit {0}) Fault). RunsAs m script journal_file seed tracers left old new r) (sym p.1) (subst (λ (f : Fault). RunsAs m script journal_file seed tracers left old new (Err f)) (sym p.2) did)

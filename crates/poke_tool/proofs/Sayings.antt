@@ -34,7 +34,7 @@ use Rattle.poke_tool.specs.Endings.{MayBeCut}
 use Rattle.poke_tool.specs.Fault.{refusal_status}
 use Rattle.poke_tool.specs.Runs.{SaysSomething}
 use Rattle.poke_tool.specs.Script.{AcceptsScript, RefusesScript}
-use Rattle.poke_tool.specs.Saying.{Begins, CheckSays, FileSays, Holds, JournalBegins, JournalSays, ModuleSays, PlanSays, RunSays, Saying, ScriptSays, ShowSays, Says, WantsSays, WithJournal, WithScript, no_tracers, plan_saying, refused_status, refuses, refuses_line, saying_status, says_both, says_file, says_text, show_saying}
+use Rattle.poke_tool.specs.Saying.{Begins, CheckSays, FileSays, Holds, JournalBegins, JournalSays, LiveSays, ModuleSays, PlanSays, RunSays, Saying, ScriptSays, ShowSays, Says, WantsSays, WithJournal, WithScript, plan_saying, refused_status, refuses, refuses_line, saying_status, says_both, says_file, says_text, show_saying}
 use Rattle.poke_tool.proofs.SameModules.{never_both}
 use Rattle.recorded_run.specs.Replaying.{IsRefusedAt, IsReplayed}
 use Rattle.run_journal.specs.declared.event.Event.{Event}
@@ -188,11 +188,14 @@ with_script_alike P told module_file script_file s t ends some says says_too =
     let both = one_file (ModuleSays (OfScript P told script_file)) told module_file s t some says says_too in
     modules_end_alike P told script_file both.bytes s t ends some both.first both.second
 
--- what `wants` and `run` say is never refused
+-- what `wants`, `live` and `run` say is never refused
 wants_alike : EndsAlike WantsSays
 wants_alike file text m n script s t first_is second_is accepts also says says_too = alike s t _ _ says.2 says_too.2 refl
 
-run_alike : (journal_file : List ℕ) (seed : ℕ) → EndsAlike (RunSays journal_file seed no_tracers)
+live_alike : (turns : ℕ) → EndsAlike (LiveSays turns)
+live_alike turns file text m n script s t first_is second_is accepts also says says_too = alike s t _ _ says.2 says_too.2 refl
+
+run_alike : (journal_file : List ℕ) (seed : ℕ) → EndsAlike (RunSays journal_file seed)
 run_alike journal_file seed file text m n script s t first_is second_is accepts also says says_too = alike s t _ _ says.is says_too.is refl
 
 -- no journal is both refused at a line for one of two modules of one file, and replayed for the other
@@ -218,13 +221,13 @@ long_status : (s : Saying) → s ≡ refuses 3 (JournalRefusal LongJournal) → 
 long_status s is = ap (λ (x : Saying). saying_status x) is
 
 -- a journal is too long or refused at a line, or it is replayed
-journal_ends : (m : Module) (script : ScriptValue) (bytes : List ℕ) (s : Saying) → JournalSays no_tracers m script bytes s → (saying_status s ≡ 4) ⊎ (saying_status s ≡ 0)
+journal_ends : (m : Module) (script : ScriptValue) (bytes : List ℕ) (s : Saying) → JournalSays m script bytes s → (saying_status s ≡ 4) ⊎ (saying_status s ≡ 0)
 journal_ends m script bytes s (inl long) = inl (long_status s long.1)
 journal_ends m script bytes s (inr (inl stops)) = inl (line_status _ stops.line s stops.is)
 journal_ends m script bytes s (inr (inr replays)) = inr (text_status 3 _ s replays.is)
 
 -- it isn't replayed for one of two modules and refused for the other
-stops_or_replays : (file text bytes : List ℕ) (m n : Module) (script : ScriptValue) (s t : Saying) → Accepts file m → Accepts file n → AcceptsScript m text script → JournalSays no_tracers m script bytes s → JournalSays no_tracers n script bytes t → saying_status s ≡ 4 → saying_status t ≡ 0 → ⊥
+stops_or_replays : (file text bytes : List ℕ) (m n : Module) (script : ScriptValue) (s t : Saying) → Accepts file m → Accepts file n → AcceptsScript m text script → JournalSays m script bytes s → JournalSays n script bytes t → saying_status s ≡ 4 → saying_status t ≡ 0 → ⊥
 stops_or_replays file text bytes m n script s t first_is second_is accepts (inl long) (inl other) four none =
     let same = long_status t other.1 in omega (arith, same, none)
 stops_or_replays file text bytes m n script s t first_is second_is accepts (inl long) (inr (inl stops)) four none =
@@ -239,7 +242,7 @@ stops_or_replays file text bytes m n script s t first_is second_is accepts (inr 
 stops_or_replays file text bytes m n script s t first_is second_is accepts (inr (inr replays)) other four none =
     let same = text_status 3 _ s replays.is in omega (arith, same, four)
 
-journals_end_alike : (file text bytes : List ℕ) (m n : Module) (script : ScriptValue) (s t : Saying) → Accepts file m → Accepts file n → AcceptsScript m text script → AcceptsScript n text script → JournalSays no_tracers m script bytes s → JournalSays no_tracers n script bytes t → saying_status s ≡ saying_status t
+journals_end_alike : (file text bytes : List ℕ) (m n : Module) (script : ScriptValue) (s t : Saying) → Accepts file m → Accepts file n → AcceptsScript m text script → AcceptsScript n text script → JournalSays m script bytes s → JournalSays n script bytes t → saying_status s ≡ saying_status t
 journals_end_alike file text bytes m n script s t first_is second_is accepts also says says_too =
     by (journal_ends m script bytes s says) (journal_ends n script bytes t says_too)
   where
@@ -249,10 +252,10 @@ journals_end_alike file text bytes m n script s t first_is second_is accepts als
     by (inr none) (inl four) = absurd (stops_or_replays file text bytes n m script t s second_is first_is also says_too says four none)
     by (inr none) (inr same) = none ∙ sym same
 
-replay_alike : (told : Option Files) (journal_file : List ℕ) → IsSome told → EndsAlike (WithJournal (JournalSays no_tracers) told journal_file)
+replay_alike : (told : Option Files) (journal_file : List ℕ) → IsSome told → EndsAlike (WithJournal JournalSays told journal_file)
 replay_alike told journal_file some file text m n script s t first_is second_is accepts also (a, holds, says) (b, holds_too, says_too) =
     journals_end_alike file text a m n script s t first_is second_is accepts also says
-    (subst (λ (bytes : List ℕ). JournalSays no_tracers n script bytes t) (one_text told journal_file b a some holds_too holds) says_too)
+    (subst (λ (bytes : List ℕ). JournalSays n script bytes t) (one_text told journal_file b a some holds_too holds) says_too)
 
 -- where the files are told, two sayings of a command end alike
 pub says_alike : (row : Row) (told : Option Files) (s t : Saying) → IsSome told → Says row told s → Says row told t → saying_status s ≡ saying_status t
@@ -269,10 +272,12 @@ says_alike (command.Make n file) told s t some says says_too = alike s t _ _ say
 says_alike (command.Wants module_file script_file) told s t some says says_too =
     with_script_alike WantsSays told module_file script_file s t wants_alike some says says_too
 says_alike (command.Run module_file script_file journal_file seed) told s t some says says_too =
-    with_script_alike (RunSays journal_file seed no_tracers) told module_file script_file s t (run_alike journal_file seed) some says says_too
+    with_script_alike (RunSays journal_file seed) told module_file script_file s t (run_alike journal_file seed) some says says_too
 says_alike (command.Replay module_file script_file journal_file) told s t some says says_too =
-    with_script_alike (WithJournal (JournalSays no_tracers) told journal_file) told module_file script_file s t (replay_alike told journal_file some) some says says_too
+    with_script_alike (WithJournal JournalSays told journal_file) told module_file script_file s t (replay_alike told journal_file some) some says says_too
 says_alike (command.Bench n seed) told s t some says says_too = alike s t _ _ says.2 says_too.2 refl
+says_alike (command.Live module_file script_file turns seed) told s t some says says_too =
+    with_script_alike (LiveSays turns) told module_file script_file s t (live_alike turns) some says says_too
 
 -- a saying of a text, of a file, of a refusal alone, or of a text and a file
 abbrev IsPlainForm : ℕ → Saying → Type 0
@@ -290,6 +295,7 @@ IsReplay (command.Wants module_file script_file) = ⊥
 IsReplay (command.Run module_file script_file journal_file seed) = ⊥
 IsReplay (command.Replay module_file script_file journal_file) = Unit {0}
 IsReplay (command.Bench n seed) = ⊥
+IsReplay (command.Live module_file script_file turns seed) = ⊥
 
 abbrev IsLineForm : Row → Saying → Type 0
 IsLineForm row s = IsReplay row × ((text : List ℕ) × (line : ℕ) × (s ≡ refuses_line text line))
@@ -334,7 +340,7 @@ script_form row P told script_file bytes s form (inl (why, refused, is)) = refus
 script_form row P told script_file bytes s form (inr (m, accepts, (text, holds, inl (why, refused, is)))) = refused_form row 2 s _ (lit≤ tt) is
 script_form row P told script_file bytes s form (inr (m, accepts, (text, holds, inr (script, read, says)))) = form m script says
 
-journal_form : (row : Row) (m : Module) (script : ScriptValue) (bytes : List ℕ) (s : Saying) → IsReplay row → JournalSays no_tracers m script bytes s → IsForm row s
+journal_form : (row : Row) (m : Module) (script : ScriptValue) (bytes : List ℕ) (s : Saying) → IsReplay row → JournalSays m script bytes s → IsForm row s
 journal_form row m script bytes s replay (inl long) = refused_form row 3 s _ (lit≤ tt) long.1
 journal_form row m script bytes s replay (inr (inl stops)) =
     record { asks = 3; some = λ _. lit≤ tt; is = asks_of s _ stops.is; form = inr (replay, (_, _, stops.is)) }
@@ -350,13 +356,16 @@ says_form (command.Wants module_file script_file) told s says =
     script_form (command.Wants module_file script_file) WantsSays told script_file says.0 s
     (λ m script said. text_form (command.Wants module_file script_file) 2 s _ (lit≤ tt) said.2) says.2
 says_form (command.Run module_file script_file journal_file seed) told s says =
-    script_form (command.Run module_file script_file journal_file seed) (RunSays journal_file seed no_tracers) told script_file says.0 s
+    script_form (command.Run module_file script_file journal_file seed) (RunSays journal_file seed) told script_file says.0 s
     (λ m script said. both_form (command.Run module_file script_file journal_file seed) 3 s _ _ _ (lit≤ tt) said.is) says.2
 says_form (command.Replay module_file script_file journal_file) told s says =
-    script_form (command.Replay module_file script_file journal_file) (WithJournal (JournalSays no_tracers) told journal_file) told script_file says.0 s
+    script_form (command.Replay module_file script_file journal_file) (WithJournal JournalSays told journal_file) told script_file says.0 s
     (λ m script said. journal_form (command.Replay module_file script_file journal_file) m script said.0 s tt said.2) says.2
 says_form (command.Bench n seed) told s says =
     record { asks = 0; some = λ one. absurd (omega (arith, one)); is = asks_of s _ says.2; form = inl (inl (_, says.2)) }
+says_form (command.Live module_file script_file turns seed) told s says =
+    script_form (command.Live module_file script_file turns seed) (LiveSays turns) told script_file says.0 s
+    (λ m script said. text_form (command.Live module_file script_file turns seed) 2 s _ (lit≤ tt) said.2) says.2
 
 -- a command that is refused makes no file, and says nothing before but where a line of a journal is refused
 abbrev pub IsLineOf : Row → Refusal → Type 0
@@ -411,17 +420,20 @@ asks_after_script P told module_file script_file bytes text m script s least mor
     by_module (inr (n, accepts_too, (b, holds_b, said))) =
         by_script n accepts_too (subst (λ (b : List ℕ). ScriptSays P n b s) (one_text told script_file b text some holds_b holds_script) said)
 
--- `wants`, `run` and `replay` ask for their scripts where their modules are accepted, and `replay` then for its journal
+-- `wants`, `live`, `run` and `replay` ask for their scripts where their modules are accepted, and `replay` then for its journal
 pub wants_asks : (m : Module) (script : ScriptValue) (s : Saying) → WantsSays m script s → 2 ≤ s.asks
 wants_asks m script s says = let asks = asks_of s _ says.2 in omega arith
 
-pub run_asks : (journal_file : List ℕ) (seed : ℕ) (m : Module) (script : ScriptValue) (s : Saying) → RunSays journal_file seed no_tracers m script s → 2 ≤ s.asks
+pub live_asks : (turns : ℕ) (m : Module) (script : ScriptValue) (s : Saying) → LiveSays turns m script s → 2 ≤ s.asks
+live_asks turns m script s says = let asks = asks_of s _ says.2 in omega arith
+
+pub run_asks : (journal_file : List ℕ) (seed : ℕ) (m : Module) (script : ScriptValue) (s : Saying) → RunSays journal_file seed m script s → 2 ≤ s.asks
 run_asks journal_file seed m script s says = let asks = asks_of s _ says.is in omega arith
 
-pub replay_asks : (told : Option Files) (journal_file : List ℕ) (m : Module) (script : ScriptValue) (s : Saying) → WithJournal (JournalSays no_tracers) told journal_file m script s → 3 ≤ s.asks
+pub replay_asks : (told : Option Files) (journal_file : List ℕ) (m : Module) (script : ScriptValue) (s : Saying) → WithJournal JournalSays told journal_file m script s → 3 ≤ s.asks
 replay_asks told journal_file m script s (bytes, holds, says) = by says
   where
-    by : JournalSays no_tracers m script bytes s → 3 ≤ s.asks
+    by : JournalSays m script bytes s → 3 ≤ s.asks
     by (inl long) = let asks = asks_of s _ long.1 in omega arith
     by (inr (inl stops)) = let asks = asks_of s _ stops.is in omega arith
     by (inr (inr replays)) = let asks = asks_of s _ replays.is in omega arith
@@ -454,9 +466,9 @@ silent row told s t why not_replay some says something says_too refused = by t.r
         nothing other is (says_plain row told t other says is) (something (subst (λ (o : Option Refusal). IsSome o) (sym is) refl))
 
 -- what `replay` says at least where a write failed is no refusal, and of the same files only a line is refused then
-replay_cut : (told : Option Files) (module_file script_file journal_file : List ℕ) (s t : Saying) (why : Refusal) → IsSome told → WithScript (WithJournal (JournalBegins no_tracers) told journal_file) told module_file script_file t → (IsSome t.refused → SaysSomething t) → WithScript (WithJournal (JournalSays no_tracers) told journal_file) told module_file script_file s → s.refused ≡ Some why → MayBeCut s why
+replay_cut : (told : Option Files) (module_file script_file journal_file : List ℕ) (s t : Saying) (why : Refusal) → IsSome told → WithScript (WithJournal JournalBegins told journal_file) told module_file script_file t → (IsSome t.refused → SaysSomething t) → WithScript (WithJournal JournalSays told journal_file) told module_file script_file s → s.refused ≡ Some why → MayBeCut s why
 replay_cut told module_file script_file journal_file s t why some begins something says refused =
-    let both = one_file_of (ModuleSays (OfScript (WithJournal (JournalBegins no_tracers) told journal_file) told script_file)) (ModuleSays (OfScript (WithJournal (JournalSays no_tracers) told journal_file) told script_file)) begins says in
+    let both = one_file_of (ModuleSays (OfScript (WithJournal JournalBegins told journal_file) told script_file)) (ModuleSays (OfScript (WithJournal JournalSays told journal_file) told script_file)) begins says in
     by_module both.0 both.1 both.2
   where
     one_file_of : (P Q : List ℕ → Saying → Type 0) → FileSays P told module_file t → FileSays Q told module_file s → (bytes : List ℕ) × P bytes t × Q bytes s
@@ -470,25 +482,25 @@ replay_cut told module_file script_file journal_file s t why some begins somethi
         nothing (inl text) = text (ap (λ (x : Saying). x.text) is)
         nothing (inr makes) = makes (ap (λ (x : Saying). x.makes) is)
 
-    by_journal : (m n : Module) (script other : ScriptValue) (bytes : List ℕ) → JournalBegins no_tracers m script bytes t → JournalSays no_tracers n other bytes s → MayBeCut s why
+    by_journal : (m n : Module) (script other : ScriptValue) (bytes : List ℕ) → JournalBegins m script bytes t → JournalSays n other bytes s → MayBeCut s why
     by_journal m n script other bytes begun (inl long) = absurd (not_both_long _ _ long.0 begun.fits)
     by_journal m n script other bytes begun (inr (inl stops)) =
         subst (λ (r : Refusal). MayBeCut s r) (same_Some (JournalRefusal (JournalLine stops.line)) why (sym (ap (λ (x : Saying). x.refused) stops.is) ∙ refused)) tt
     by_journal m n script other bytes begun (inr (inr replays)) = let none = ap (λ (x : Saying). x.refused) replays.is in absurd (cc)
 
-    by_script : (file : List ℕ) (m n : Module) (bytes : List ℕ) → Accepts file m → Accepts file n → ScriptSays (WithJournal (JournalBegins no_tracers) told journal_file) m bytes t → ScriptSays (WithJournal (JournalSays no_tracers) told journal_file) n bytes s → MayBeCut s why
+    by_script : (file : List ℕ) (m n : Module) (bytes : List ℕ) → Accepts file m → Accepts file n → ScriptSays (WithJournal JournalBegins told journal_file) m bytes t → ScriptSays (WithJournal JournalSays told journal_file) n bytes s → MayBeCut s why
     by_script file m n bytes accepts also (inl (other, refused_too, is)) rest = absurd (silent_refusal 2 (ScriptRefusal other) is)
     by_script file m n bytes accepts also (inr (script, read, begun)) (inl (other, refused_too, is)) =
         absurd (not_both_scripts m n bytes script other (modules_alike file m n accepts also) read refused_too)
     by_script file m n bytes accepts also (inr (script, read, (a, holds, begun))) (inr (other, read_too, (b, holds_too, said))) =
-        by_journal m n script other a begun (subst (λ (text : List ℕ). JournalSays no_tracers n other text s) (one_text told journal_file b a some holds_too holds) said)
+        by_journal m n script other a begun (subst (λ (text : List ℕ). JournalSays n other text s) (one_text told journal_file b a some holds_too holds) said)
 
-    by_module : (bytes : List ℕ) → ModuleSays (OfScript (WithJournal (JournalBegins no_tracers) told journal_file) told script_file) bytes t → ModuleSays (OfScript (WithJournal (JournalSays no_tracers) told journal_file) told script_file) bytes s → MayBeCut s why
+    by_module : (bytes : List ℕ) → ModuleSays (OfScript (WithJournal JournalBegins told journal_file) told script_file) bytes t → ModuleSays (OfScript (WithJournal JournalSays told journal_file) told script_file) bytes s → MayBeCut s why
     by_module bytes (inl (other, refused_too, is)) rest = absurd (silent_refusal 1 (ModuleRefusal other) is)
     by_module bytes (inr (m, accepts, begun)) (inl (other, refused_too, is)) = absurd (not_both_accepted bytes m other accepts refused_too)
     by_module bytes (inr (m, accepts, (a, holds, begun))) (inr (n, accepts_too, (b, holds_too, said))) =
         by_script bytes m n a accepts accepts_too begun
-        (subst (λ (text : List ℕ). ScriptSays (WithJournal (JournalSays no_tracers) told journal_file) n text s) (one_text told script_file b a some holds_too holds) said)
+        (subst (λ (text : List ℕ). ScriptSays (WithJournal JournalSays told journal_file) n text s) (one_text told script_file b a some holds_too holds) said)
 
 -- a write fails before a refusal only at a line of a journal
 pub cut_refused : (row : Row) (told : Option Files) (s t : Saying) (why : Refusal) → IsSome told → Begins row told t → (IsSome t.refused → SaysSomething t) → Says row told s → s.refused ≡ Some why → MayBeCut s why
@@ -504,6 +516,8 @@ cut_refused (command.Replay module_file script_file journal_file) told s t why s
     replay_cut told module_file script_file journal_file s t why some begins something says refused
 cut_refused (command.Bench n seed) told s t why some begins something says refused =
     absurd (silent (command.Bench n seed) told s t why (λ r. r) some begins something says refused)
+cut_refused (command.Live module_file script_file turns seed) told s t why some begins something says refused =
+    absurd (silent (command.Live module_file script_file turns seed) told s t why (λ r. r) some begins something says refused)
 
 -- ---- what is said of files is said where fewer are told
 
@@ -535,11 +549,13 @@ says_less (command.Make n file) told less s tells says = says
 says_less (command.Wants module_file script_file) told less s tells says =
     script_less WantsSays WantsSays told less module_file script_file s tells (λ m script said. said) says
 says_less (command.Run module_file script_file journal_file seed) told less s tells says =
-    script_less (RunSays journal_file seed no_tracers) (RunSays journal_file seed no_tracers) told less module_file script_file s tells (λ m script said. said) says
+    script_less (RunSays journal_file seed) (RunSays journal_file seed) told less module_file script_file s tells (λ m script said. said) says
 says_less (command.Replay module_file script_file journal_file) told less s tells says =
-    script_less (WithJournal (JournalSays no_tracers) told journal_file) (WithJournal (JournalSays no_tracers) less journal_file) told less module_file script_file s tells
-    (λ m script said. file_less (JournalSays no_tracers m script) (JournalSays no_tracers m script) told less journal_file s tells (same_said (JournalSays no_tracers m script) s) said) says
+    script_less (WithJournal JournalSays told journal_file) (WithJournal JournalSays less journal_file) told less module_file script_file s tells
+    (λ m script said. file_less (JournalSays m script) (JournalSays m script) told less journal_file s tells (same_said (JournalSays m script) s) said) says
 says_less (command.Bench n seed) told less s tells says = says
+says_less (command.Live module_file script_file turns seed) told less s tells says =
+    script_less (LiveSays turns) (LiveSays turns) told less module_file script_file s tells (λ m script said. said) says
 
 pub begins_less : (row : Row) (told less : Option Files) (s : Saying) → Tells told less → Begins row told s → Begins row less s
 begins_less (command.Plan file) told less s tells says = says_less (command.Plan file) told less s tells says
@@ -550,6 +566,8 @@ begins_less (command.Wants module_file script_file) told less s tells says = say
 begins_less (command.Run module_file script_file journal_file seed) told less s tells says =
     says_less (command.Run module_file script_file journal_file seed) told less s tells says
 begins_less (command.Replay module_file script_file journal_file) told less s tells says =
-    script_less (WithJournal (JournalBegins no_tracers) told journal_file) (WithJournal (JournalBegins no_tracers) less journal_file) told less module_file script_file s tells
-    (λ m script said. file_less (JournalBegins no_tracers m script) (JournalBegins no_tracers m script) told less journal_file s tells (same_said (JournalBegins no_tracers m script) s) said) says
+    script_less (WithJournal JournalBegins told journal_file) (WithJournal JournalBegins less journal_file) told less module_file script_file s tells
+    (λ m script said. file_less (JournalBegins m script) (JournalBegins m script) told less journal_file s tells (same_said (JournalBegins m script) s) said) says
 begins_less (command.Bench n seed) told less s tells says = says
+begins_less (command.Live module_file script_file turns seed) told less s tells says =
+    says_less (command.Live module_file script_file turns seed) told less s tells says

@@ -28,7 +28,7 @@ use Rattle.poke_tool.specs.Command.{Replay, file_words}
 use Rattle.poke_tool.specs.Journal.{AcceptsJournal, RefusesAsJournal, journal_limit}
 use Rattle.poke_tool.specs.RunFault.{run_fault}
 use Rattle.poke_tool.specs.Runs.{Asks, Does, IsRead, MakesNothing, ReadsInput}
-use Rattle.poke_tool.specs.Saying.{Begins, Holds, JournalBegins, JournalSays, Saying, Says, WithJournal, WithScript, refuses, refuses_line, says_text, no_tracers, told_before}
+use Rattle.poke_tool.specs.Saying.{Begins, Holds, JournalBegins, JournalSays, Saying, Says, WithJournal, WithScript, refuses, refuses_line, says_text, told_before}
 use Rattle.poke_tool.specs.Script.{AcceptsScript, RefusesAsScript}
 use Rattle.poke_tool.specs.Scripted.{ReplaysAs, StopsScript}
 use Rattle.poke_tool.proofs.Asking.{Asks-none, Asks-same, HasRead, MakesNothing-trans, added_later, has_read-more, held_before, still_told}
@@ -45,7 +45,7 @@ none_appended : (files : Option Files) (making : Option (List ℕ)) → option_m
 none_appended None making = refl
 none_appended (Some files) making = refl
 
-unchanged : (old new : Outside) (text : List ℕ) → Puts old new [] text → MakesNothing old new
+pub unchanged : (old new : Outside) (text : List ℕ) → Puts old new [] text → MakesNothing old new
 unchanged old new text h = record {
   files = subst (λ (files : Option Files). Tells files new.files) (none_appended old.files old.making) h.files;
   making = h.making;
@@ -81,15 +81,15 @@ third_fails module_file script_file journal_file old middle between new m script
     let hold : BothHold (told_before old new) module_file script_file Accepts m (AcceptsScript m) script = both_hold row module_file script_file old middle between new Accepts RefusesAsModule m (AcceptsScript m) (RefusesAsScript m) script both.first both.second (still_told between.files new.files reads.leaves.nothing.files) in
     input_fails row 2 3 journal_file old between new AcceptsJournal RefusesAsJournal fault refl (third_is_read module_file script_file journal_file) (lit≤ tt)
     (has_both module_file script_file journal_file old middle between m script both) reads
-    (λ bytes why holds refused. says_journal (JournalSays no_tracers) module_file script_file journal_file (told_before old new) m script bytes (refuses 3 why) hold holds (inl (refused.1, ap (refuses 3) refused.0)))
-    (λ s some says. asks_after_script (WithJournal (JournalSays no_tracers) (told_before old new) journal_file) (told_before old new) module_file script_file hold.bytes hold.text m script s 3 (λ n other said. replay_asks (told_before old new) journal_file n other s said) some hold.holds hold.is hold.holds_too hold.is_too says)
+    (λ bytes why holds refused. says_journal JournalSays module_file script_file journal_file (told_before old new) m script bytes (refuses 3 why) hold holds (inl (refused.1, ap (refuses 3) refused.0)))
+    (λ s some says. asks_after_script (WithJournal JournalSays (told_before old new) journal_file) (told_before old new) module_file script_file hold.bytes hold.text m script s 3 (λ n other said. replay_asks (told_before old new) journal_file n other s said) some hold.holds hold.is hold.holds_too hold.is_too says)
 
 -- all three were read
 pub record ReadAll (module_file script_file journal_file : List ℕ) (old middle between now : Outside) (m : Module) (script : ScriptValue) (read : Vec ℕ Global) : Type 0 where
   pub both : ReadBoth module_file script_file journal_file old middle between m script
   pub third : ReadsInput between now journal_file AcceptsJournal RefusesAsJournal (Ok read)
 
-has_all : (module_file script_file journal_file : List ℕ) (old middle between now : Outside) (m : Module) (script : ScriptValue) (read : Vec ℕ Global) → ReadAll module_file script_file journal_file old middle between now m script read → HasRead (Replay module_file script_file journal_file) 3 old now
+pub has_all : (module_file script_file journal_file : List ℕ) (old middle between now : Outside) (m : Module) (script : ScriptValue) (read : Vec ℕ Global) → ReadAll module_file script_file journal_file old middle between now m script read → HasRead (Replay module_file script_file journal_file) 3 old now
 has_all module_file script_file journal_file old middle between now m script read all =
     has_read-more (Replay module_file script_file journal_file) 2 3 journal_file old between now AcceptsJournal RefusesAsJournal (Ok read) refl (third_is_read module_file script_file journal_file)
     (has_both module_file script_file journal_file old middle between m script all.both) all.third
@@ -176,17 +176,18 @@ cut_off module_file script_file journal_file old now new begun part next has put
 
 -- ---- what a journal says of it
 
-says_replayed : (m : Module) (script : ScriptValue) (bytes text tally : List ℕ) (events : List Event) → length bytes ≤ journal_limit → IsReplayed m (first m script) bytes events → IsTally (fed_events m (first m script) events no_tracers) tally → text ≡ trace m (first m script) events ++ tally → JournalSays no_tracers m script bytes (says_text 3 text)
-says_replayed m script bytes text tally events fits is is_tally same =
-    inr (inr (record { fits = fits; events = events; replayed = is; tally = tally; is_tally = is_tally; is = ap (says_text 3) same }))
+says_replayed : (m : Module) (script : ScriptValue) (bytes text tally : List ℕ) (events : List Event) (tracers : List Meaning) → length bytes ≤ journal_limit → IsReplayed m (first m script) bytes events → IsTally (fed_events m (first m script) events tracers) tally → text ≡ trace m (first m script) events ++ tally → JournalSays m script bytes (says_text 3 text)
+says_replayed m script bytes text tally events tracers fits is is_tally same =
+    inr (inr (record { fits = fits; events = events; replayed = is; tracers = tracers; tally = tally; is_tally = is_tally; is = ap (says_text 3) same }))
 
-says_stopped : (m : Module) (script : ScriptValue) (bytes text : List ℕ) (events : List Event) (line : ℕ) → length bytes ≤ journal_limit → IsRefusedAt m (first m script) bytes events line → text ≡ events_text m (first m script) events → JournalSays no_tracers m script bytes (refuses_line text line)
+says_stopped : (m : Module) (script : ScriptValue) (bytes text : List ℕ) (events : List Event) (line : ℕ) → length bytes ≤ journal_limit → IsRefusedAt m (first m script) bytes events line → text ≡ events_text m (first m script) events → JournalSays m script bytes (refuses_line text line)
 says_stopped m script bytes text events line fits is same =
     inr (inl (record { fits = fits; events = events; line = line; refused = is; is = ap (λ (t : List ℕ). refuses_line t line) same }))
 
-says_begun : (m : Module) (script : ScriptValue) (bytes begun next : List ℕ) (events : List Event) (reader : ReaderState) → length bytes ≤ journal_limit → ReadsLegal m (first m script) bytes events reader → IsNextText m (first m script) bytes no_tracers events reader next → begun ≡ events_text m (first m script) events → JournalBegins no_tracers m script bytes (says_text 3 (begun ++ next))
-says_begun m script bytes begun next events reader fits before is_next same = record {
+says_begun : (m : Module) (script : ScriptValue) (bytes begun next : List ℕ) (events : List Event) (tracers : List Meaning) (reader : ReaderState) → length bytes ≤ journal_limit → ReadsLegal m (first m script) bytes events reader → IsNextText m (first m script) bytes tracers events reader next → begun ≡ events_text m (first m script) events → JournalBegins m script bytes (says_text 3 (begun ++ next))
+says_begun m script bytes begun next events tracers reader fits before is_next same = record {
   fits = fits;
+  tracers = tracers;
   events = events;
   reader = reader;
   before = before;
@@ -195,84 +196,89 @@ says_begun m script bytes begun next events reader fits before is_next same = re
   is = ap (λ (t : List ℕ). says_text 3 (t ++ next)) same;
 }
 
+-- what the three files hold, where they are still told
+pub all_hold : (module_file script_file journal_file : List ℕ) (old middle between now new : Outside) (m : Module) (script : ScriptValue) (read : Vec ℕ Global) → ReadAll module_file script_file journal_file old middle between now m script read → Tells now.files new.files → BothHold (told_before old new) module_file script_file Accepts m (AcceptsScript m) script
+all_hold module_file script_file journal_file old middle between now new m script read all tells =
+    both_hold (Replay module_file script_file journal_file) module_file script_file old middle between new Accepts RefusesAsModule m (AcceptsScript m) (RefusesAsScript m) script all.both.first all.both.second
+    (still_told between.files new.files (Tells-trans between.files now.files new.files all.third.leaves.nothing.files tells))
+
+pub third_holds : (module_file script_file journal_file : List ℕ) (old middle between now new : Outside) (m : Module) (script : ScriptValue) (read : Vec ℕ Global) → ReadAll module_file script_file journal_file old middle between now m script read → Tells now.files new.files → Holds (told_before old new) journal_file read.items
+third_holds module_file script_file journal_file old middle between now new m script read all tells =
+    let has = has_all module_file script_file journal_file old middle between now m script read all in
+    subst (λ (bytes : List ℕ). Holds (told_before old new) journal_file bytes) (sym all.third.input.2.0)
+    (held_before old now new journal_file all.third.input.0 has.leaves.nothing.files (still_told now.files new.files tells) all.third.input.1)
+
+pub third_fits : (module_file script_file journal_file : List ℕ) (old middle between now : Outside) (m : Module) (script : ScriptValue) (read : Vec ℕ Global) → ReadAll module_file script_file journal_file old middle between now m script read → length read.items ≤ journal_limit
+third_fits module_file script_file journal_file old middle between now m script read all =
+    subst (λ (bytes : List ℕ). length bytes ≤ journal_limit) (sym all.third.input.2.0) all.third.input.2.1
+
 -- the journal was replayed, refused at a line, or a print failed
-pub replays_said : (module_file script_file journal_file : List ℕ) (old middle between now new : Outside) (m : Module) (script : ScriptValue) (read : Vec ℕ Global) (left : List Meaning) (result : Result (Unit {0}) RunFault) → ReadAll module_file script_file journal_file old middle between now m script read → ReplayDoes m script read.items no_tracers left now new result → Does (Replay module_file script_file journal_file) old new (after_run result)
-replays_said module_file script_file journal_file old middle between now new m script read left result all does = by result does
+pub replays_said : (module_file script_file journal_file : List ℕ) (old middle between now new : Outside) (m : Module) (script : ScriptValue) (read : Vec ℕ Global) (tracers left : List Meaning) (result : Result (Unit {0}) RunFault) → ReadAll module_file script_file journal_file old middle between now m script read → ReplayDoes m script read.items tracers left now new result → Does (Replay module_file script_file journal_file) old new (after_run result)
+replays_said module_file script_file journal_file old middle between now new m script read tracers left result all does = by result does
   where
     has : HasRead (Replay module_file script_file journal_file) 3 old now
     has = has_all module_file script_file journal_file old middle between now m script read all
 
     hold : Tells now.files new.files → BothHold (told_before old new) module_file script_file Accepts m (AcceptsScript m) script
-    hold tells =
-        both_hold (Replay module_file script_file journal_file) module_file script_file old middle between new Accepts RefusesAsModule m (AcceptsScript m) (RefusesAsScript m) script all.both.first all.both.second
-        (still_told between.files new.files (Tells-trans between.files now.files new.files all.third.leaves.nothing.files tells))
+    hold tells = all_hold module_file script_file journal_file old middle between now new m script read all tells
 
     holds : Tells now.files new.files → Holds (told_before old new) journal_file read.items
-    holds tells =
-        subst (λ (bytes : List ℕ). Holds (told_before old new) journal_file bytes) (sym all.third.input.2.0)
-        (held_before old now new journal_file all.third.input.0 has.leaves.nothing.files (still_told now.files new.files tells) all.third.input.1)
+    holds tells = third_holds module_file script_file journal_file old middle between now new m script read all tells
 
     fits : length read.items ≤ journal_limit
-    fits = subst (λ (bytes : List ℕ). length bytes ≤ journal_limit) (sym all.third.input.2.0) all.third.input.2.1
+    fits = third_fits module_file script_file journal_file old middle between now m script read all
 
     said : (P : Module → ScriptValue → List ℕ → Saying → Type 0) (text : List ℕ) (s : Saying) → Puts now new [] text → P m script read.items s → WithScript (WithJournal P (told_before old new) journal_file) (told_before old new) module_file script_file s
     said P text s puts says =
         let tells = (unchanged now new text puts).files in
         says_journal P module_file script_file journal_file (told_before old new) m script read.items s (hold tells) (holds tells) says
 
-    by : (result : Result (Unit {0}) RunFault) → ReplayDoes m script read.items no_tracers left now new result → Does (Replay module_file script_file journal_file) old new (after_run result)
+    by : (result : Result (Unit {0}) RunFault) → ReplayDoes m script read.items tracers left now new result → Does (Replay module_file script_file journal_file) old new (after_run result)
     by (Ok done) does =
         let text : List ℕ = trace m (first m script) does.events ++ does.tally in
         replayed module_file script_file journal_file old now new text has does.puts
-        (said (JournalSays no_tracers) text (says_text 3 text) does.puts (says_replayed m script read.items text does.tally does.events fits does.is does.is_tally refl))
+        (said JournalSays text (says_text 3 text) does.puts (says_replayed m script read.items text does.tally does.events tracers fits does.is does.is_tally refl))
     by (Err WriteStop) does =
         let begun : List ℕ = events_text m (first m script) does.done in
         cut_off module_file script_file journal_file old now new begun does.part does.next has does.puts does.prefix does.failed
-        (said (JournalBegins no_tracers) (begun ++ does.part) (says_text 3 (begun ++ does.next)) does.puts (says_begun m script read.items begun does.next does.done does.reader fits does.before does.is_next refl))
+        (said JournalBegins (begun ++ does.part) (says_text 3 (begun ++ does.next)) does.puts (says_begun m script read.items begun does.next does.done tracers does.reader fits does.before does.is_next refl))
     by (Err (LineStop line)) does =
         let text : List ℕ = events_text m (first m script) does.events in
         stopped module_file script_file journal_file old now new text line has does.puts
-        (said (JournalSays no_tracers) text (refuses_line text line) does.puts (says_stopped m script read.items text does.events line fits does.is refl))
+        (said JournalSays text (refuses_line text line) does.puts (says_stopped m script read.items text does.events line fits does.is refl))
 
 -- the same, as the fault of the command, or there was no memory
-pub replays_as : (module_file script_file journal_file : List ℕ) (old middle between now new : Outside) (m : Module) (script : ScriptValue) (read : Vec ℕ Global) (result : Result (Unit {0}) Fault) → ReadAll module_file script_file journal_file old middle between now m script read → ReplaysAs m script read.items no_tracers now new result → Does (Replay module_file script_file journal_file) old new result
-replays_as module_file script_file journal_file old middle between now new m script read result all did = by result did
+pub replays_as : (module_file script_file journal_file : List ℕ) (old middle between now new : Outside) (m : Module) (script : ScriptValue) (read : Vec ℕ Global) (tracers left : List Meaning) (result : Result (Unit {0}) Fault) → ReadAll module_file script_file journal_file old middle between now m script read → ReplaysAs m script read.items tracers left now new result → Does (Replay module_file script_file journal_file) old new result
+replays_as module_file script_file journal_file old middle between now new m script read tracers left result all did = by result did
   where
-    stopped_as : (fault : Fault) → StopsScript m script read.items no_tracers now new fault → Does (Replay module_file script_file journal_file) old new (Err fault)
+    stopped_as : (fault : Fault) → StopsScript m script read.items tracers left now new fault → Does (Replay module_file script_file journal_file) old new (Err fault)
     stopped_as fault stopped_is =
         subst (λ (f : Fault). Does (Replay module_file script_file journal_file) old new (Err f)) (sym stopped_is.is)
-        (replays_said module_file script_file journal_file old middle between now new m script read stopped_is.stops.left (Err stopped_is.why) all stopped_is.stops.replays)
+        (replays_said module_file script_file journal_file old middle between now new m script read tracers left (Err stopped_is.why) all stopped_is.replays)
 
-    by : (result : Result (Unit {0}) Fault) → ReplaysAs m script read.items no_tracers now new result → Does (Replay module_file script_file journal_file) old new result
-    by (Ok done) does = replays_said module_file script_file journal_file old middle between now new m script read does.left (Ok tt) all does.replays
+    by : (result : Result (Unit {0}) Fault) → ReplaysAs m script read.items tracers left now new result → Does (Replay module_file script_file journal_file) old new result
+    by (Ok done) does = replays_said module_file script_file journal_file old middle between now new m script read tracers left (Ok tt) all does
     by (Err Words) stops = stopped_as Words stops
     by (Err (Refused why)) stops = stopped_as (Refused why) stops
     by (Err Read) stops = stopped_as Read stops
     by (Err Write) stops = stopped_as Write stops
     by (Err Memory) same =
-        subst (λ (o : Outside). Does (Replay module_file script_file journal_file) old o (Err Memory)) (sym same)
+        subst (λ (o : Outside). Does (Replay module_file script_file journal_file) old o (Err Memory)) (sym same.0)
         (three_lack module_file script_file journal_file old middle between now m script read all)
 
--- what a world that is new replays is said of its module and script, as the fault of the command
-pub replay_done : (m n : Module) (script other : ScriptValue) (text : List ℕ) (handed tracers left : List Meaning) (old new : Outside) (result : Result (Unit {0}) RunFault) → m ≡ n → script ≡ other → handed ≡ tracers → ReplayDoes m script text handed left old new result → ReplaysAs n other text tracers old new (after_run result)
-replay_done m n script other text handed tracers left old new result same_module same_script same_tracers does = by result moved
-  where
-    moved : ReplayDoes n other text tracers left old new result
-    moved =
-        subst (λ (x : Module). ReplayDoes x other text tracers left old new result) same_module
-        (subst (λ (x : ScriptValue). ReplayDoes m x text tracers left old new result) same_script
-        (subst (λ (x : List Meaning). ReplayDoes m script text x left old new result) same_tracers does))
+-- what a replay answers, as the fault of the command
+pub replay_answers : (m : Module) (script : ScriptValue) (text : List ℕ) (tracers left : List Meaning) (old new : Outside) (result : Result (Unit {0}) RunFault) → ReplayDoes m script text tracers left old new result → ReplaysAs m script text tracers left old new (after_run result)
+replay_answers m script text tracers left old new (Ok done) does = does
+replay_answers m script text tracers left old new (Err WriteStop) does = record { why = WriteStop; replays = does; is = refl }
+replay_answers m script text tracers left old new (Err (LineStop line)) does = record { why = LineStop line; replays = does; is = refl }
 
-    by : (result : Result (Unit {0}) RunFault) → ReplayDoes n other text tracers left old new result → ReplaysAs n other text tracers old new (after_run result)
-    by (Ok done) does = record { left = left; replays = does }
-    by (Err WriteStop) does = record { why = WriteStop; stops = record { left = left; replays = does }; is = refl }
-    by (Err (LineStop line)) does = record { why = LineStop line; stops = record { left = left; replays = does }; is = refl }
+-- what a world that is new replays is said of its module and script
+pub replay_said : (m n : Module) (script other : ScriptValue) (text : List ℕ) (tracers left : List Meaning) (old new : Outside) (result : Result (Unit {0}) Fault) → m ≡ n → script ≡ other → ReplaysAs m script text tracers left old new result → ReplaysAs n other text tracers left old new result
+replay_said m n script other text tracers left old new result same_module same_script did =
+    subst (λ (x : Module). ReplaysAs x other text tracers left old new result) same_module
+    (subst (λ (x : ScriptValue). ReplaysAs m x text tracers left old new result) same_script did)
 
--- nothing is meant by no tracers
-pub map_none : {X Y : Type 0} (f : X → Y) (xs : List X) → xs ≡ [] → map f xs ≡ []
-map_none f xs none = ap (map f) none
-
-pub replays_exit : (m : Module) (script : ScriptValue) (text : List ℕ) (tracers : List Meaning) (old new : Outside) (fault : Fault) (result : Result (Unit {0}) Fault) → IsErrAnd result (λ e. e ≡ fault) → ReplaysAs m script text tracers old new (Err fault) → ReplaysAs m script text tracers old new result
-replays_exit m script text tracers old new fault result is did =
+pub replays_exit : (m : Module) (script : ScriptValue) (text : List ℕ) (tracers left : List Meaning) (old new : Outside) (fault : Fault) (result : Result (Unit {0}) Fault) → IsErrAnd result (λ e. e ≡ fault) → ReplaysAs m script text tracers left old new (Err fault) → ReplaysAs m script text tracers left old new result
+replays_exit m script text tracers left old new fault result is did =
     let p = err_from_is_err_and result is in
-    subst (λ (r : Result (Unit {0}) Fault). ReplaysAs m script text tracers old new r) (sym p.1) (subst (λ (f : Fault). ReplaysAs m script text tracers old new (Err f)) (sym p.2) did)
+    subst (λ (r : Result (Unit {0}) Fault). ReplaysAs m script text tracers left old new r) (sym p.1) (subst (λ (f : Fault). ReplaysAs m script text tracers left old new (Err f)) (sym p.2) did)

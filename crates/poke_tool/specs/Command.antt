@@ -6,7 +6,7 @@ use Rattle.poke_base.specs.declared.host.AskedBy.{AskedBy}
 use Rattle.poke_base.specs.declared.host.AskedBy.TheVariants.{Read, Make as MakeFile}
 use Rattle.poke_base.specs.Number.{dec_number}
 use Rattle.poke_tool.specs.declared.command.Command.{Command}
-use Rattle.poke_tool.specs.declared.command.Command.TheVariants.{Plan as WithPlan, Show as WithShow, Check as WithCheck, Make as WithMake, Wants as WithWants, Run as WithRun, Replay as WithReplay, Bench as WithBench}
+use Rattle.poke_tool.specs.declared.command.Command.TheVariants.{Plan as WithPlan, Show as WithShow, Check as WithCheck, Make as WithMake, Wants as WithWants, Run as WithRun, Replay as WithReplay, Bench as WithBench, Live as WithLive}
 
 -- a command with the names of its files, in the order of its words, and its numbers
 pub data Row : Type 0 where
@@ -18,6 +18,7 @@ pub data Row : Type 0 where
   Run : List ℕ → List ℕ → List ℕ → ℕ → Row
   Replay : List ℕ → List ℕ → List ℕ → Row
   Bench : ℕ → ℕ → Row
+  Live : List ℕ → List ℕ → ℕ → ℕ → Row
 
 -- the command that the program read
 abbrev pub row : Command → Row
@@ -29,6 +30,7 @@ row (WithWants module_file script_file) = Wants module_file.now script_file.now
 row (WithRun module_file script_file journal_file seed) = Run module_file.now script_file.now journal_file.now seed
 row (WithReplay module_file script_file journal_file) = Replay module_file.now script_file.now journal_file.now
 row (WithBench blocks seed) = Bench blocks seed
+row (WithLive module_file script_file turns seed) = Live module_file.now script_file.now turns seed
 
 -- the words after the program's name
 abbrev pub words_of : List (String Global) → List (List ℕ)
@@ -91,6 +93,28 @@ bench_row (n ∷ []) = None
 bench_row (n ∷ seed ∷ []) = bench_numbers (block_count n) (dec_number seed)
 bench_row (n ∷ seed ∷ more ∷ rest) = None
 
+-- a number of turns, 1 to 100,000
+abbrev pub turns_in_range : Option ℕ → Option ℕ
+turns_in_range None = None
+turns_in_range (Some n) = if nat_le 1 n && nat_le n 100000 then Some n else None
+
+abbrev pub turn_count : List ℕ → Option ℕ
+turn_count word = turns_in_range (dec_number word)
+
+-- `live MODULE SCRIPT TURNS SEED`
+abbrev pub live_numbers : List ℕ → List ℕ → Option ℕ → Option ℕ → Option Row
+live_numbers module_file script_file None seed = None
+live_numbers module_file script_file (Some turns) seed = option_map (λ seed. Live module_file script_file turns seed) seed
+
+abbrev pub live_row : List (List ℕ) → Option Row
+live_row [] = None
+live_row (module_file ∷ []) = None
+live_row (module_file ∷ script_file ∷ []) = None
+live_row (module_file ∷ script_file ∷ turns ∷ []) = None
+live_row (module_file ∷ script_file ∷ turns ∷ seed ∷ []) =
+    live_numbers module_file script_file (turn_count turns) (dec_number seed)
+live_row (module_file ∷ script_file ∷ turns ∷ seed ∷ more ∷ rest) = None
+
 -- the command that the words are; none for all other words
 abbrev pub row_of : List (List ℕ) → Option Row
 row_of [] = None
@@ -103,6 +127,7 @@ row_of (name ∷ rest) =
     else if bytes_eq name (codes "run") then run_row rest
     else if bytes_eq name (codes "replay") then option_map (λ files. Replay files.0 files.1 files.2) (three_files rest)
     else if bytes_eq name (codes "bench") then bench_row rest
+    else if bytes_eq name (codes "live") then live_row rest
     else None
 
 -- the file words of a command from left to right, each with the call that it is handed to
@@ -117,6 +142,7 @@ file_words (Run module_file script_file journal_file seed) =
 file_words (Replay module_file script_file journal_file) =
     (module_file, Read) ∷ (script_file, Read) ∷ (journal_file, Read) ∷ []
 file_words (Bench n seed) = []
+file_words (Live module_file script_file turns seed) = (module_file, Read) ∷ (script_file, Read) ∷ []
 
 -- the numbers of a command are in their ranges
 abbrev pub IsInRange : Command → Type 0
@@ -128,3 +154,4 @@ IsInRange (WithWants module_file script_file) = ⊤
 IsInRange (WithRun module_file script_file journal_file seed) = ⊤
 IsInRange (WithReplay module_file script_file journal_file) = ⊤
 IsInRange (WithBench blocks seed) = (10 ≤ blocks) × (blocks ≤ 1000)
+IsInRange (WithLive module_file script_file turns seed) = (1 ≤ turns) × (turns ≤ 100000)

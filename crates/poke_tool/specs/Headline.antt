@@ -11,11 +11,13 @@ use Rattle.run_journal.specs.declared.event.Event.{Event}
 use Rattle.run_journal.specs.Spelling.{journal}
 use Rattle.script_text.specs.Script.{ScriptValue}
 use Rattle.switching.specs.State.{first}
+use Rattle.tracer_ops.specs.Meaning.{Meaning}
 use Rattle.poke_tool.specs.Check.{Accepts}
 use Rattle.poke_tool.specs.Command as command
 use Rattle.poke_tool.specs.Command.{Row}
 use Rattle.poke_tool.specs.Journal.{journal_limit}
-use Rattle.poke_tool.specs.Saying.{Holds, no_tracers, told_before}
+use Rattle.poke_tool.specs.Live.{IsLiveText}
+use Rattle.poke_tool.specs.Saying.{Holds, told_before}
 use Rattle.poke_tool.specs.Script.{AcceptsScript}
 
 -- a run: a module, a script of it, and events
@@ -54,10 +56,10 @@ IsRunOf (command.Replay module_file script_file journal_file) old new r =
     HoldsInputs (told_before old new) module_file script_file r × IsReadFrom (told_before old new) journal_file r
 IsRunOf _ old new r = ⊥
 
--- the trace of its events was printed, and behind it what became of the tracers, of which none are handed in
-pub record PrintsTrace (r : AnyRun) (old new : Outside) : Type 0 where
+-- the trace of its events was printed, and behind it what became of the tracers that were handed in
+pub record PrintsTrace (r : AnyRun) (tracers : List Meaning) (old new : Outside) : Type 0 where
   pub tally : List ℕ
-  pub is_tally : IsTally (fed_events r.m (first r.m r.script) r.events no_tracers) tally
+  pub is_tally : IsTally (fed_events r.m (first r.m r.script) r.events tracers) tally
   pub printed : Tells (with_more old.printed (trace r.m (first r.m r.script) r.events ++ tally)) new.printed
 
 -- the words are those of a command that shows a run
@@ -71,5 +73,20 @@ abbrev pub IsShown : Option Row → Outside → Outside → AnyRun → Type 0
 IsShown None old new r = ⊥
 IsShown (Some row) old new r = IsRunOf row old new r
 
+-- it is shown with some tracers
 abbrev pub ShowsRun : Option Row → Outside → Outside → Type 0
-ShowsRun words old new = (r : AnyRun) × IsShown words old new r × PrintsTrace r old new
+ShowsRun words old new = (r : AnyRun) × IsShown words old new r × ((tracers : List Meaning) × PrintsTrace r tracers old new)
+
+-- the walks of a live run were printed: the module's file holds an accepted module, the script's file a script of it, and between
+-- the lines of how the updates end and those of the sites stands what each processor did
+pub record ShowsLive (module_file script_file : List ℕ) (turns : ℕ) (old new : Outside) : Type 0 where
+  pub r : AnyRun
+  pub inputs : HoldsInputs (told_before old new) module_file script_file r
+  pub text : List ℕ
+  pub is : IsLiveText r.m r.script turns text
+  pub printed : Tells (with_more old.printed text) new.printed
+
+-- where the words are those of such a run
+abbrev pub ShowsWalks : Option Row → Outside → Outside → Type 0
+ShowsWalks (Some (command.Live module_file script_file turns seed)) old new = ShowsLive module_file script_file turns old new
+ShowsWalks _ old new = Unit {0}

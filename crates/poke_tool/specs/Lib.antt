@@ -4,6 +4,7 @@ pub mod Module
 pub mod Check
 pub mod Script
 pub mod Wants
+pub mod Live
 pub mod Command
 pub mod Fault
 pub mod Saying
@@ -17,3 +18,4 @@ pub mod Journal
 pub mod RunFault
 pub mod Scripted
 pub mod Headline
+pub mod Feeding

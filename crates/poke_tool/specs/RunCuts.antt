@@ -36,10 +36,11 @@ pub record StopsBetween (m : Module) (start : State) (events : List Event) (trac
   pub printed : Tells (with_more old.printed (events_text m start done ++ text)) new.printed
 
 -- the run that is cut is the one that is said
-pub record CutsRun (name : List ℕ) (tracers : List Meaning) (s : Saying) (old new : Outside) : Type 0 where
+pub record CutsRun (name : List ℕ) (s : Saying) (old new : Outside) : Type 0 where
   pub m : Module
   pub start : State
   pub events : List Event
+  pub tracers : List Meaning
   pub tally : List ℕ
   pub is_tally : IsTally (fed_events m start events tracers) tally
   pub text_is : s.text ≡ trace m start events ++ tally

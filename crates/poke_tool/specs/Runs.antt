@@ -12,7 +12,7 @@ use Rattle.poke_tool.specs.Command as command
 use Rattle.poke_tool.specs.Command.{Row, row_of, file_words}
 use Rattle.poke_tool.specs.Fault.{status_of, complaint_of}
 use Rattle.poke_tool.specs.RunCuts.{CutsRun}
-use Rattle.poke_tool.specs.Saying.{Begins, Holds, Saying, Says, no_tracers, told_before}
+use Rattle.poke_tool.specs.Saying.{Begins, Holds, Saying, Says, told_before}
 
 -- a text was printed
 abbrev pub PrintsText : Outside → Outside → List ℕ → Type 0
@@ -67,9 +67,10 @@ Coupled (command.Show file) s old new = ⊤
 Coupled (command.Check file) s old new = ⊤
 Coupled (command.Make n file) s old new = ⊤
 Coupled (command.Wants module_file script_file) s old new = ⊤
-Coupled (command.Run module_file script_file journal_file seed) s old new = CutsRun journal_file no_tracers s old new
+Coupled (command.Run module_file script_file journal_file seed) s old new = CutsRun journal_file s old new
 Coupled (command.Replay module_file script_file journal_file) s old new = ⊤
 Coupled (command.Bench n seed) s old new = ⊤
+Coupled (command.Live module_file script_file turns seed) s old new = ⊤
 
 -- what a failed write leaves of what a command's files say
 pub record Cuts (row : Row) (s : Saying) (old new : Outside) : Type 0 where

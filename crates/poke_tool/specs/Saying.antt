@@ -32,6 +32,7 @@ use Rattle.poke_tool.specs.Command as command
 use Rattle.poke_tool.specs.Command.{Row}
 use Rattle.poke_tool.specs.Fault.{refusal_status}
 use Rattle.poke_tool.specs.Journal.{journal_limit}
+use Rattle.poke_tool.specs.Live.{IsLiveText}
 use Rattle.poke_tool.specs.Module.{ModuleShows}
 use Rattle.poke_tool.specs.Plan.{poke_text}
 use Rattle.poke_tool.specs.PlanLine.{PokeLine}
@@ -132,11 +133,12 @@ WantsSays m script s = (printed : List ℕ) × IsWantsText m script printed × (
 abbrev pub says_both : ℕ → List ℕ → List ℕ → List ℕ → Saying
 says_both n text name bytes = record { text = text; makes = Some (name, bytes); refused = None; asks = n }
 
--- what `run` says of a script of an accepted module, with the tracers that it is handed: the events that the seed chooses, their
--- trace, what became of the tracers, and the journal
-pub record RunSays (journal_file : List ℕ) (seed : ℕ) (tracers : List Meaning) (m : Module) (script : ScriptValue) (s : Saying) : Type 0 where
+-- what `run` says of a script of an accepted module: the events that the seed chooses, their trace, what became of some tracers,
+-- and the journal
+pub record RunSays (journal_file : List ℕ) (seed : ℕ) (m : Module) (script : ScriptValue) (s : Saying) : Type 0 where
   pub events : List Event
   pub run : IsRun m script seed events
+  pub tracers : List Meaning
   pub tally : List ℕ
   pub is_tally : IsTally (fed_events m (first m script) events tracers) tally
   pub is : s ≡ says_both 3 (trace m (first m script) events ++ tally) journal_file (journal events)
@@ -154,10 +156,11 @@ pub record StopsAt (m : Module) (script : ScriptValue) (bytes : List ℕ) (s : S
   pub refused : IsRefusedAt m (first m script) bytes events line
   pub is : s ≡ refuses_line (events_text m (first m script) events) line
 
-pub record Replays (tracers : List Meaning) (m : Module) (script : ScriptValue) (bytes : List ℕ) (s : Saying) : Type 0 where
+pub record Replays (m : Module) (script : ScriptValue) (bytes : List ℕ) (s : Saying) : Type 0 where
   pub fits : length bytes ≤ journal_limit
   pub events : List Event
   pub replayed : IsReplayed m (first m script) bytes events
+  pub tracers : List Meaning
   pub tally : List ℕ
   pub is_tally : IsTally (fed_events m (first m script) events tracers) tally
   pub is : s ≡ says_text 3 (trace m (first m script) events ++ tally)
@@ -165,12 +168,13 @@ pub record Replays (tracers : List Meaning) (m : Module) (script : ScriptValue) 
 abbrev pub IsTooLong : List ℕ → Saying → Type 0
 IsTooLong bytes s = (journal_limit < length bytes) × (s ≡ refuses 3 (JournalRefusal LongJournal))
 
-abbrev pub JournalSays : List Meaning → Module → ScriptValue → List ℕ → Saying → Type 0
-JournalSays tracers m script bytes s = IsTooLong bytes s ⊎ (StopsAt m script bytes s ⊎ Replays tracers m script bytes s)
+abbrev pub JournalSays : Module → ScriptValue → List ℕ → Saying → Type 0
+JournalSays m script bytes s = IsTooLong bytes s ⊎ (StopsAt m script bytes s ⊎ Replays m script bytes s)
 
 -- what they say at least, where no more of them is told: what some events show with which they begin, and what is printed next
-pub record JournalBegins (tracers : List Meaning) (m : Module) (script : ScriptValue) (bytes : List ℕ) (s : Saying) : Type 0 where
+pub record JournalBegins (m : Module) (script : ScriptValue) (bytes : List ℕ) (s : Saying) : Type 0 where
   pub fits : length bytes ≤ journal_limit
+  pub tracers : List Meaning
   pub events : List Event
   pub reader : ReaderState
   pub before : ReadsLegal m (first m script) bytes events reader
@@ -186,14 +190,15 @@ WithJournal P told journal_file m script s = FileSays (P m script) told journal_
 abbrev pub BenchSays : ℕ → ℕ → Saying → Type 0
 BenchSays n seed s = (counts : Counts) × IsBench n seed counts × (s ≡ says_text 0 (bench_text n seed counts))
 
+-- what `live` says of a script of an accepted module: how its updates end, what processors did while they were made, and what
+-- the sites then hold
+abbrev pub LiveSays : ℕ → Module → ScriptValue → Saying → Type 0
+LiveSays turns m script s = (printed : List ℕ) × IsLiveText m script turns printed × (s ≡ says_text 2 printed)
+
 -- what a module file says with a script file
 abbrev pub WithScript : (Module → ScriptValue → Saying → Type 0) → Option Files → List ℕ → List ℕ → Saying → Type 0
 WithScript P told module_file script_file s =
     FileSays (ModuleSays (λ m t. FileSays (ScriptSays P m) told script_file t)) told module_file s
-
--- the program hands in no tracers
-abbrev pub no_tracers : List Meaning
-no_tracers = []
 
 -- what the files of a command say
 abbrev pub Says : Row → Option Files → Saying → Type 0
@@ -203,10 +208,11 @@ Says (command.Check module_file) told s = FileSays (ModuleSays CheckSays) told m
 Says (command.Make n file) told s = MakeSays n file s
 Says (command.Wants module_file script_file) told s = WithScript WantsSays told module_file script_file s
 Says (command.Run module_file script_file journal_file seed) told s =
-    WithScript (RunSays journal_file seed no_tracers) told module_file script_file s
+    WithScript (RunSays journal_file seed) told module_file script_file s
 Says (command.Replay module_file script_file journal_file) told s =
-    WithScript (WithJournal (JournalSays no_tracers) told journal_file) told module_file script_file s
+    WithScript (WithJournal JournalSays told journal_file) told module_file script_file s
 Says (command.Bench n seed) told s = BenchSays n seed s
+Says (command.Live module_file script_file turns seed) told s = WithScript (LiveSays turns) told module_file script_file s
 
 -- what they say at least, where a write fails
 abbrev pub Begins : Row → Option Files → Saying → Type 0
@@ -218,5 +224,7 @@ Begins (command.Wants module_file script_file) told s = Says (command.Wants modu
 Begins (command.Run module_file script_file journal_file seed) told s =
     Says (command.Run module_file script_file journal_file seed) told s
 Begins (command.Replay module_file script_file journal_file) told s =
-    WithScript (WithJournal (JournalBegins no_tracers) told journal_file) told module_file script_file s
+    WithScript (WithJournal JournalBegins told journal_file) told module_file script_file s
 Begins (command.Bench n seed) told s = Says (command.Bench n seed) told s
+Begins (command.Live module_file script_file turns seed) told s =
+    Says (command.Live module_file script_file turns seed) told s

@@ -14,35 +14,31 @@ use Rattle.poke_tool.specs.declared.fault.Fault.TheVariants.{Memory, Write}
 use Rattle.poke_tool.specs.RunFault.{run_fault}
 
 -- the journal was made, and the script ran
-pub record RunsScript (m : Module) (script : ScriptValue) (journal_file : List ℕ) (seed : ℕ) (tracers : List Meaning) (old new : Outside) (result : Result (Unit {0}) RunFault) : Type 0 where
+pub record RunsScript (m : Module) (script : ScriptValue) (journal_file : List ℕ) (seed : ℕ) (tracers left : List Meaning) (old new : Outside) (result : Result (Unit {0}) RunFault) : Type 0 where
   pub made : Outside
   pub makes : MakesFile {T = Unit {0}} {E = WriteFail} old made journal_file (Ok tt)
-  pub left : List Meaning
   pub runs : RunDoes m script seed tracers left made new result
 
--- the journal wasn't made
-pub record HasNoJournal (journal_file : List ℕ) (old new : Outside) : Type 0 where
+-- the journal wasn't made, and no tracer was told
+pub record HasNoJournal (journal_file : List ℕ) (tracers left : List Meaning) (old new : Outside) : Type 0 where
   pub why : WriteFail
   pub makes : MakesFile {T = Unit {0}} {E = WriteFail} old new journal_file (Err why)
+  pub untold : left ≡ tracers
 
-abbrev pub RunsAs : Module → ScriptValue → List ℕ → ℕ → List Meaning → Outside → Outside → Result (Unit {0}) Fault → Type 0
-RunsAs m script journal_file seed tracers old new (Ok done) = RunsScript m script journal_file seed tracers old new (Ok tt)
-RunsAs m script journal_file seed tracers old new (Err Write) =
-    HasNoJournal journal_file old new ⊎ RunsScript m script journal_file seed tracers old new (Err WriteStop)
-RunsAs m script journal_file seed tracers old new (Err Memory) = new ≡ old
-RunsAs m script journal_file seed tracers old new (Err _) = ⊥
+abbrev pub RunsAs : Module → ScriptValue → List ℕ → ℕ → List Meaning → List Meaning → Outside → Outside → Result (Unit {0}) Fault → Type 0
+RunsAs m script journal_file seed tracers left old new (Ok done) = RunsScript m script journal_file seed tracers left old new (Ok tt)
+RunsAs m script journal_file seed tracers left old new (Err Write) =
+    HasNoJournal journal_file tracers left old new ⊎ RunsScript m script journal_file seed tracers left old new (Err WriteStop)
+RunsAs m script journal_file seed tracers left old new (Err Memory) = (new ≡ old) × (left ≡ tracers)
+RunsAs m script journal_file seed tracers left old new (Err _) = ⊥
 
--- the journal was replayed, or refused at a line, or a print failed
-pub record ReplaysScript (m : Module) (script : ScriptValue) (text : List ℕ) (tracers : List Meaning) (old new : Outside) (result : Result (Unit {0}) RunFault) : Type 0 where
-  pub left : List Meaning
-  pub replays : ReplayDoes m script text tracers left old new result
-
-pub record StopsScript (m : Module) (script : ScriptValue) (text : List ℕ) (tracers : List Meaning) (old new : Outside) (fault : Fault) : Type 0 where
+-- the journal was refused at a line, or a print failed
+pub record StopsScript (m : Module) (script : ScriptValue) (text : List ℕ) (tracers left : List Meaning) (old new : Outside) (fault : Fault) : Type 0 where
   pub why : RunFault
-  pub stops : ReplaysScript m script text tracers old new (Err why)
+  pub replays : ReplayDoes m script text tracers left old new (Err why)
   pub is : fault ≡ run_fault why
 
-abbrev pub ReplaysAs : Module → ScriptValue → List ℕ → List Meaning → Outside → Outside → Result (Unit {0}) Fault → Type 0
-ReplaysAs m script text tracers old new (Ok done) = ReplaysScript m script text tracers old new (Ok tt)
-ReplaysAs m script text tracers old new (Err Memory) = new ≡ old
-ReplaysAs m script text tracers old new (Err fault) = StopsScript m script text tracers old new fault
+abbrev pub ReplaysAs : Module → ScriptValue → List ℕ → List Meaning → List Meaning → Outside → Outside → Result (Unit {0}) Fault → Type 0
+ReplaysAs m script text tracers left old new (Ok done) = ReplayDoes m script text tracers left old new (Ok tt)
+ReplaysAs m script text tracers left old new (Err Memory) = (new ≡ old) × (left ≡ tracers)
+ReplaysAs m script text tracers left old new (Err fault) = StopsScript m script text tracers left old new fault

@@ -1,6 +1,6 @@
 //! The commands, as the words after the program's name give them.
 ghost use Rattle.std.specs.Prelude.{◌≡◌, IfSome, option_map};
-ghost use Rattle.poke_tool.specs.Command.{block_count, one_file, two_files, words_of};
+ghost use Rattle.poke_tool.specs.Command.{block_count, one_file, turn_count, two_files, words_of};
 
 use poke_base::read_dec;
 
@@ -47,10 +47,18 @@ pub enum Command<'a> {
         blocks: u32,
         seed: u64,
     },
+    /// Runs a script on threads, each processor for so many turns, 1 to 100,000, by a seed: prints how the updates end, what
+    /// each processor did, and what the sites then hold.
+    Live {
+        module: &'a str,
+        script: &'a str,
+        turns: u32,
+        seed: u64,
+    },
 }
 
 impl<'a> Command<'a> {
-    ghost use Rattle.poke_tool.specs.Command.{IsInRange, Replay, Wants, bench_row, make_row, row, row_of, run_row, three_files, two_files, words_of};
+    ghost use Rattle.poke_tool.specs.Command.{IsInRange, Replay, Wants, bench_row, live_row, make_row, row, row_of, run_row, three_files, two_files, words_of};
 
     /// The command that the words are. `None` exactly for all other words.
     pub fn read(words: &'a [String]) -> Option<Command<'a>>
@@ -73,6 +81,7 @@ impl<'a> Command<'a> {
             "run" => Command::run(rest),
             "replay" => Command::replay(rest),
             "bench" => Command::bench(rest),
+            "live" => Command::live(rest),
             _ => None,
         }
     }
@@ -151,6 +160,26 @@ impl<'a> Command<'a> {
             _ => None,
         }
     }
+
+    /// `live MODULE SCRIPT TURNS SEED`
+    fn live(rest: &'a [String]) -> Option<Command<'a>>
+        ensures row { option_map row result ≡ live_row (words_of rest.now) }
+        ensures in_range { IfSome result IsInRange }
+    {
+        match rest {
+            [module, script, turns, seed] => {
+                let turns = turn_count(turns)?;
+                let seed = read_dec(seed.as_bytes())?;
+                Some(Command::Live {
+                    module: module.as_str(),
+                    script: script.as_str(),
+                    turns,
+                    seed,
+                })
+            }
+            _ => None,
+        }
+    }
 }
 
 /// The only two words after a command's name, its files. `None` exactly where there are fewer or more.
@@ -179,6 +208,18 @@ fn block_count(word: &str) -> Option<u32>
 {
     let n = read_dec(word.as_bytes())?;
     if (10..=1_000).contains(&n) {
+        Some(n as u32)
+    } else {
+        None
+    }
+}
+
+/// A number of turns, 1 to 100,000. `None` exactly for all other words.
+fn turn_count(word: &str) -> Option<u32>
+    ensures { result ≡ turn_count word.now }
+{
+    let n = read_dec(word.as_bytes())?;
+    if (1..=100_000).contains(&n) {
         Some(n as u32)
     } else {
         None

@@ -11,6 +11,7 @@ mod fault;
 mod input;
 mod journal_fault;
 mod journal_file;
+mod live;
 mod make;
 mod module_fault;
 mod module_file;

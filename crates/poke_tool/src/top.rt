@@ -1,24 +1,28 @@
 //! The whole program as one call.
-ghost use Rattle.std.specs.Prelude.{◌≡◌, ◌≢◌, ◌↔◌, ℕ, List, None, Some};
+ghost use Rattle.std.specs.Prelude.{◌≡◌, ◌≢◌, ◌↔◌, ℕ, List, None, Some, map};
 ghost use Rattle.poke_base.specs.Host.{Rose};
 ghost use Rattle.poke_tool.specs.Command.{Row, Make, row, row_of, words_of};
 ghost use Rattle.poke_tool.specs.Runs.{DoesRow, LeavesAll, MakesNothing, Runs};
 ghost use Rattle.poke_tool.specs.Endings.{AsksInOrder, EndsAloud, EndsMaking, EndsSaying};
-ghost use Rattle.poke_tool.specs.Headline.{AnyRun, IsShown, RunsProcessors, ShowsRun};
+ghost use Rattle.poke_tool.specs.Feeding.{Feeds, FeedsTracers};
+ghost use Rattle.poke_tool.specs.Headline.{AnyRun, IsShown, RunsProcessors, ShowsRun, ShowsWalks};
 ghost use Rattle.recorded_run.specs.Headline.{EndsAsCommands, HoldsWhatIsWanted, IsSwitched, NeverOldAgain, OnlyNewAfterReturn, PassesWhole};
 
 use crate::bench::bench;
 use crate::check::check;
 use crate::command::Command;
 use crate::fault::Fault;
+use crate::live::live;
 use crate::make::make;
 use crate::plan::plan;
 use crate::replay::replay;
 use crate::run::run;
 use crate::show::show;
 use crate::wants::wants;
+use live_engine::Gate;
 use poke_base::Host;
-use std::alloc::Global;
+use std::thread::Threads;
+use tracer_ops::Tracer;
 
 /// Does the command that the words are, and answers the status with which the program ends. The
 /// words don't have the program's name.
@@ -38,7 +42,21 @@ use std::alloc::Global;
 /// its whole old or whole new instruction; within one update no processor does the old one after the new; once the update has
 /// returned, only the new one is done; at the end every site that isn't foreign holds what its key, target or trace state
 /// prescribes; and the updates end as the script's commands do, whatever the processors did meanwhile.
-pub fn textpoke<H: Host>(alloc: Global, words: &[String], host: &mut H) -> u8
+///
+/// `run` and `replay` tell the tracers that are handed in of each call at a traced site, after the event's lines were printed, and
+/// drop those that the script drops; what each drop answered and what each tracer that is left has counted stands behind the
+/// trace. At every status but 0, 4 and 6, and for every other command, they are as before.
+///
+/// At 0 `live` has printed a walk of each processor, beside which another thread patched the sites: each pass of a site is one
+/// whole version of it, the one that the processor's last acknowledgement gives or the one after it, and neither goes back. Only
+/// `live` takes threads from `rt`, and its workers alone pass the gate, before each turn that they do beside one another.
+pub fn textpoke<R: Threads + AllocGlobal + Sync, H: Host, G: Gate + Sync>(
+    rt: &R,
+    words: &[String],
+    host: &mut H,
+    tracers: &mut Vec<Box<dyn Tracer>>,
+    gate: &G,
+) -> u8
     ensures runs { Runs (words_of words.now) (H.outside host.old) (H.outside host.new) result }
 
     ensures bad_words { (result ≡ 1) ↔ (row_of (words_of words.now) ≡ None) }
@@ -57,10 +75,14 @@ pub fn textpoke<H: Host>(alloc: Global, words: &[String], host: &mut H) -> u8
     ensures holds_what_is_wanted { (r : AnyRun) → IsShown (row_of (words_of words.now)) (H.outside host.old) (H.outside host.new) r → HoldsWhatIsWanted r.m r.script r.events }
     ensures ends_as_commands { (r : AnyRun) → IsShown (row_of (words_of words.now)) (H.outside host.old) (H.outside host.new) r → EndsAsCommands r.m r.script r.events }
 
+    ensures shows_walks { result ≡ 0 → ShowsWalks (row_of (words_of words.now)) (H.outside host.old) (H.outside host.new) }
+
+    ensures feeds { FeedsTracers (row_of (words_of words.now)) (map (λ b. meaning b) tracers.old.items) (map (λ b. meaning b) tracers.new.items) (H.outside host.old) (H.outside host.new) result }
+
     ensures says { (row : Row) → row_of (words_of words.now) ≡ Some row → EndsSaying row (H.outside host.old) (H.outside host.new) result }
     ensures makes { (n : ℕ) (name : List ℕ) → row_of (words_of words.now) ≡ Some (Make n name) → EndsMaking n name (H.outside host.old) (H.outside host.new) result }
 {
-    match do_command(alloc, words, host) {
+    match do_command(rt, words, host, tracers, gate) {
         Ok(()) => 0,
         Err(fault) => {
             // The status says why, whether the report goes out or not.
@@ -71,9 +93,17 @@ pub fn textpoke<H: Host>(alloc: Global, words: &[String], host: &mut H) -> u8
 }
 
 /// Does the command that the words are.
-fn do_command<H: Host>(alloc: Global, words: &[String], host: &mut H) -> Result<(), Fault>
-    ensures { DoesRow (row_of (words_of words.now)) (H.outside host.old) (H.outside host.new) result }
+fn do_command<R: Threads + AllocGlobal + Sync, H: Host, G: Gate + Sync>(
+    rt: &R,
+    words: &[String],
+    host: &mut H,
+    tracers: &mut Vec<Box<dyn Tracer>>,
+    gate: &G,
+) -> Result<(), Fault>
+    ensures does { DoesRow (row_of (words_of words.now)) (H.outside host.old) (H.outside host.new) result }
+    ensures feeds { Feeds (row_of (words_of words.now)) (map (λ b. meaning b) tracers.old.items) (map (λ b. meaning b) tracers.new.items) (H.outside host.old) (H.outside host.new) result }
 {
+    let alloc = rt.alloc();
     match Command::read(words) {
         None => Err(Fault::Words),
         Some(Command::Plan { file }) => plan(alloc, file, host),
@@ -88,14 +118,22 @@ fn do_command<H: Host>(alloc: Global, words: &[String], host: &mut H) -> Result<
                 journal,
                 seed,
             },
-        ) => run(alloc, module, script, journal, seed, host),
+        ) => run(alloc, module, script, journal, seed, host, tracers),
         Some(
             Command::Replay {
                 module,
                 script,
                 journal,
             },
-        ) => replay(alloc, module, script, journal, host),
+        ) => replay(alloc, module, script, journal, host, tracers),
         Some(Command::Bench { blocks, seed }) => bench(alloc, blocks, seed, host),
+        Some(
+            Command::Live {
+                module,
+                script,
+                turns,
+                seed,
+            },
+        ) => live(rt, module, script, turns, seed, host, gate),
     }
 }

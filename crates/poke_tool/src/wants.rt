@@ -51,7 +51,7 @@ fn print_run<H: Host>(image: &Image, run: &DryRun, host: &mut H) -> Result<(), W
 }
 
 /// Prints how updates ended, a line each, by their numbers.
-fn print_outcomes<H: Host>(outcomes: &[Outcome], host: &mut H) -> Result<(), WriteFail>
+pub fn print_outcomes<H: Host>(outcomes: &[Outcome], host: &mut H) -> Result<(), WriteFail>
     requires { length outcomes.now ≤ most_updates }
     ensures { Prints (H.outside host.old) (H.outside host.new) (outcome_lines 1 (map ending_of outcomes.now)) result }
 {

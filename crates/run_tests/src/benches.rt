@@ -1,6 +1,7 @@
 //! `bench`: the counts of a run.
 
 use crate::frame::ends;
+use live_engine::OpenGate;
 use poke_base::MemoryHost;
 use poke_tool::textpoke;
 use std::test::Fail;
@@ -14,7 +15,10 @@ fn a_bench_is_counted(rt: HostRuntime) -> Result<(), Fail> {
         String::from_str(rt.alloc(), "1")?,
     ];
     let mut host = MemoryHost::new(rt.alloc());
-    assert_eq!(rt; textpoke(rt.alloc(), &list, &mut host), 0);
+    assert_eq!(rt;
+        textpoke(&rt, &list, &mut host, &mut Vec::new(rt.alloc()), &OpenGate),
+        0
+    );
     assert!(rt; host.printed().starts_with(begins));
     // (the same at each run)
     let mut again = MemoryHost::new(rt.alloc());

@@ -6,6 +6,8 @@ mod benches;
 #[cfg(test)]
 mod frame;
 #[cfg(test)]
+mod lives;
+#[cfg(test)]
 mod modules;
 #[cfg(test)]
 mod replays;

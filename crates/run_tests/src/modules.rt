@@ -74,6 +74,19 @@ pub const ENDLESS: Small<'static> = Small {
     functions: &[(b"f", F)],
 };
 
+/// A loop of a switch that leads to the same place either way, and a jump back.
+pub const SPIN: Small<'static> = Small {
+    text: b"\x0f\x1fD\0\0\xeb\xf9",
+    sites: &[PlanSite::Jump {
+        at: F,
+        target: F + 5,
+        key: 0,
+        likely: false,
+    }],
+    keys: &[(b"k", KeyStart::Count(0))],
+    functions: &[(b"f", F)],
+};
+
 /// A name of these bytes.
 fn name(bytes: &[u8]) -> Name {
     let mut name = Name::new();

@@ -4,9 +4,10 @@ use crate::frame::{Ended, ends, host_with};
 use crate::modules::{BRANCH, CALL, LOOP, Small, TAIL};
 use std::process::Abort;
 use std::test::Fail;
+use std::thread::Threads;
 
 /// Replays a journal, and asserts what comes of it.
-fn replays<R: Abort + AllocGlobal>(
+fn replays<R: Abort + AllocGlobal + Threads + Sync>(
     rt: &R,
     name: &str,
     small: &Small<'_>,
@@ -55,7 +56,7 @@ fn journals_are_replayed(rt: HostRuntime) -> Result<(), Fail> {
 }
 
 /// Replays a journal, and asserts that this line of it is refused, and what is printed before.
-fn refuses<R: Abort + AllocGlobal>(
+fn refuses<R: Abort + AllocGlobal + Threads + Sync>(
     rt: &R,
     name: &str,
     small: &Small<'_>,

@@ -2,9 +2,11 @@
 
 use crate::frame::{Ended, ends, host_with};
 use crate::modules::{BRANCH, ENDLESS, Small, traced_300};
+use live_engine::OpenGate;
 use poke_base::MemoryHost;
 use std::process::Abort;
 use std::test::Fail;
+use std::thread::Threads;
 
 /// The words of a run by a seed, with the journal `j`.
 const RUN: &[&str] = &["run", "m", "s", "j", "7"];
@@ -51,7 +53,7 @@ fn one_processor_has_one_run(rt: HostRuntime) -> Result<(), Fail> {
 }
 
 /// Runs four turns over a host whose call with this number fails, with an old journal, and asserts what is left.
-fn run_fails<R: Abort + AllocGlobal>(
+fn run_fails<R: Abort + AllocGlobal + Threads + Sync>(
     rt: &R,
     failing: u64,
     ended: Ended<'_>,
@@ -129,7 +131,10 @@ fn a_halted_processor_takes_every_request(rt: HostRuntime) -> Result<(), Fail> {
         String::from_str(rt.alloc(), "j")?,
         String::from_str(rt.alloc(), "1")?,
     ];
-    assert_eq!(rt; poke_tool::textpoke(rt.alloc(), &list, &mut host), 0);
+    assert_eq!(rt;
+        poke_tool::textpoke(&rt, &list, &mut host, &mut Vec::new(rt.alloc()), &OpenGate),
+        0
+    );
     let begins = b"0 halt\nupdate 1 begin 300\nupdate 1 done 300\nsite 401001 trace e8faffffff\n";
     assert!(rt; host.printed().starts_with(begins));
     assert_eq!(rt; lines_of(b's', host.printed()), 300);

@@ -1,14 +1,11 @@
-//! Tracers that a caller hands in: what a replay feeds them, and what it prints of them.
+//! Tracers that a caller hands in: what `replay` feeds them, and what it prints of them.
 
+use crate::frame::status_of;
 use crate::modules::traced_300;
-use elf_module::ElfFile;
-use module_image::Image;
 use poke_base::MemoryHost;
-use recorded_run::{RunFault, replay};
-use script_runner::World;
-use script_text::Script;
 use std::process::Abort;
 use std::test::Fail;
+use std::thread::Threads;
 use tracer_ops::{Count, LastSites, Tracer};
 
 /// Always answers 7, whatever it is told.
@@ -56,24 +53,29 @@ const REFUSED: &[u8] =
 
 const REFUSED_TEXT: &[u8] = b"update 1 begin 1\nupdate 1 done 1\n0 401001 call 401000\ndrop 0\n";
 
-/// Replays a journal of the module with 300 traced functions, and asserts what the printed text begins with, how many lines
-/// of sites it has, and with what it ends.
-fn replays<R: Abort + AllocGlobal>(
+/// The status of a replay, and what it reports.
+type Answer<'a> = (u8, &'a [u8]);
+
+/// The answer where all is well.
+const DONE: Answer<'static> = (0, b"");
+
+/// Replays a journal of the module with 300 traced functions, and asserts the answer, what the printed text begins with, how
+/// many lines of sites it has, and with what it ends.
+fn replays<R: Abort + AllocGlobal + Threads + Sync>(
     rt: &R,
     (script, journal): (&[u8], &[u8]),
     tracers: &mut Vec<Box<dyn Tracer>>,
-    answer: Result<(), RunFault>,
+    (status, reported): Answer<'_>,
     (first, last): (&[u8], &[u8]),
     sites: usize,
 ) -> Result<(), Fail> {
-    let file = traced_300(rt.alloc())?;
-    assert!(rt; file.len() < 100_000);
-    assert!(rt; script.len() < 100);
-    let image = Image::accept(rt.alloc(), &ElfFile::read(&file)?)?;
-    let script = Script::read(rt.alloc(), script, &image)?;
-    let mut world = World::new(rt.alloc(), image, script)?;
     let mut host = MemoryHost::new(rt.alloc());
-    assert_eq!(rt; replay(&mut world, journal, &mut host, tracers), answer);
+    host.put("m", &traced_300(rt.alloc())?)?;
+    host.put("s", script)?;
+    host.put("j", journal)?;
+    let words = ["replay", "m", "s", "j"];
+    assert_eq!(rt; status_of(rt, &mut host, &words, tracers)?, status);
+    assert_eq!(rt; host.complained(), reported);
     let printed = host.printed();
     assert!(rt; printed.starts_with(first));
     assert!(rt; printed.ends_with(last));
@@ -90,7 +92,7 @@ fn tracers_are_fed_and_dropped(rt: HostRuntime) -> Result<(), Fail> {
     let mut tracers: Vec<Box<dyn Tracer>> = Vec::new(rt.alloc());
     tracers.push(Box::new(rt.alloc(), Count::new())?)?;
     tracers.push(Box::new(rt.alloc(), LastSites::new())?)?;
-    replays(&rt, ONE, &mut tracers, Ok(()), ONE_TEXT, 300)?;
+    replays(&rt, ONE, &mut tracers, DONE, ONE_TEXT, 300)?;
     assert_eq!(rt; tracers.len(), 1);
     assert_eq!(rt; tracers[0].total(), 1);
     Ok(())
@@ -102,7 +104,7 @@ fn a_dropped_tracer_is_told_no_more(rt: HostRuntime) -> Result<(), Fail> {
     tracers.push(Box::new(rt.alloc(), Count::new())?)?;
     tracers.push(Box::new(rt.alloc(), LastSites::new())?)?;
     let ending: &[u8] = b"dropped 0 total 1\ntracer 0 total 2\n";
-    replays(&rt, TWO, &mut tracers, Ok(()), (TWO_TEXT, ending), 300)
+    replays(&rt, TWO, &mut tracers, DONE, (TWO_TEXT, ending), 300)
 }
 
 #[test]
@@ -110,7 +112,7 @@ fn a_refused_journal_has_fed_the_events_before(rt: HostRuntime) -> Result<(), Fa
     let mut tracers: Vec<Box<dyn Tracer>> = Vec::new(rt.alloc());
     tracers.push(Box::new(rt.alloc(), Count::new())?)?;
     tracers.push(Box::new(rt.alloc(), LastSites::new())?)?;
-    let refused = Err(RunFault::Line(21));
+    let refused: Answer<'_> = (4, b"textpoke: journal: line 21\n");
     let text = (REFUSED_TEXT, REFUSED_TEXT);
     replays(&rt, (TWO.0, REFUSED), &mut tracers, refused, text, 0)?;
     assert_eq!(rt; tracers.len(), 1);
@@ -125,7 +127,7 @@ fn a_tracer_may_answer_what_it_likes(rt: HostRuntime) -> Result<(), Fail> {
     tracers.push(Box::new(rt.alloc(), Seven)?)?;
     tracers.push(Box::new(rt.alloc(), LastSites::new())?)?;
     let ending: &[u8] = b"dropped 0 total 1\ntracer 0 total 7\ntracer 1 total 2\n";
-    replays(&rt, TWO, &mut tracers, Ok(()), (TWO_TEXT, ending), 300)
+    replays(&rt, TWO, &mut tracers, DONE, (TWO_TEXT, ending), 300)
 }
 
 #[test]
@@ -139,7 +141,41 @@ fn three_hundred_tracers_close_up(rt: HostRuntime) -> Result<(), Fail> {
         b"update 1 begin 1\nupdate 1 done 1\n0 401001 call 401000\n0 done\ndrop 255\ndrop 255\n",
         b"tracer 296 total 1\ntracer 297 total 1\n",
     );
-    replays(&rt, (script, ONE.1), &mut tracers, Ok(()), text, 300)?;
+    replays(&rt, (script, ONE.1), &mut tracers, DONE, text, 300)?;
     assert_eq!(rt; tracers.len(), 298);
+    Ok(())
+}
+
+#[test]
+fn a_run_tells_what_its_replay_tells(rt: HostRuntime) -> Result<(), Fail> {
+    let alloc = rt.alloc();
+    let mut hits: u64 = 0;
+    for seed in ["1", "2", "3", "4", "5", "6"] {
+        let mut host = MemoryHost::new(alloc);
+        host.put("m", &traced_300(alloc)?)?;
+        host.put("s", TWO.0)?;
+        let mut told: Vec<Box<dyn Tracer>> = Vec::new(alloc);
+        told.push(Box::new(alloc, Count::new())?)?;
+        told.push(Box::new(alloc, LastSites::new())?)?;
+        let run = ["run", "m", "s", "j", seed];
+        assert_eq!(rt; status_of(&rt, &mut host, &run, &mut told)?, 0);
+        let printed = Vec::from_slice(alloc, host.printed())?;
+        let mut again: Vec<Box<dyn Tracer>> = Vec::new(alloc);
+        again.push(Box::new(alloc, Count::new())?)?;
+        again.push(Box::new(alloc, LastSites::new())?)?;
+        let replay = ["replay", "m", "s", "j"];
+        assert_eq!(rt; status_of(&rt, &mut host, &replay, &mut again)?, 0);
+        assert_eq!(rt;
+            host.printed().strip_prefix(printed.as_slice()),
+            Some(printed.as_slice()),
+            "{seed}"
+        );
+        assert_eq!(rt; told.len(), 1, "{seed}");
+        assert_eq!(rt; again.len(), 1, "{seed}");
+        assert_eq!(rt; told[0].total(), again[0].total(), "{seed}");
+        hits = hits.saturating_add(told[0].total());
+    }
+    // (which processors pass the site before it is traced depends on the seeds)
+    assert_eq!(rt; hits, 4);
     Ok(())
 }

@@ -59,7 +59,7 @@ picked_one m s c word bytes others one other =
     (subst (λ (p : Cpu). (j byte : ℕ) → slice_get others j ≡ Some byte → byte ≡ picked word j (since (start m) s.writes p.mark (p.state.proc.ip + j))) same other.each)
 
 -- an event that a choice is
-event_one : (m : Module) (s : State) (choice : Choice) (words : ℕ) (e other : Event) → IsEventOf m s choice words e → IsEventOf m s choice words other → e ≡ other
+pub event_one : (m : Module) (s : State) (choice : Choice) (words : ℕ) (e other : Event) → IsEventOf m s choice words e → IsEventOf m s choice words other → e ≡ other
 event_one m s (Comes event) words e other is also = is ∙ sym also
 event_one m s (Fetches c) words e other (bytes, is, picked) (others, also, too) =
     is

@@ -33,7 +33,11 @@ Gives (Ok args) (Err fault) = fault ≡ Memory
 Gives (Err why) (Ok words) = ⊥
 Gives (Err why) (Err fault) = fault ≡ args_fault (error_kind why)
 
+-- the command of the words is done, or there is no memory for the words or the tracers, which is reported
+abbrev pub RunsWords : List (List ℕ) → Outside → Outside → ℕ → Type 0
+RunsWords words old new status = Runs words old new status ⊎ Ends old new (Err Memory) status
+
 -- what the program does for its arguments: the command of the words, or a fault before it is reported
 abbrev pub RunsProgram : Args → Outside → Outside → ℕ → Type 0
-RunsProgram (Ok args) old new status = Runs (words_of (after_name args)) old new status ⊎ Ends old new (Err Memory) status
+RunsProgram (Ok args) old new status = RunsWords (words_of (after_name args)) old new status
 RunsProgram (Err why) old new status = Ends old new (Err (args_fault (error_kind why))) status

@@ -11,5 +11,5 @@ use std::env;
 use std::process::ExitCode;
 
 fn main(rt: HostRuntime) -> ExitCode {
-    run(rt.alloc(), env::args(&rt), &mut RealHost::new(&rt))
+    run(&rt, env::args(&rt), &mut RealHost::new(&rt))
 }

@@ -1,9 +1,11 @@
 //! The program over a host: from the arguments to the exit code.
-ghost use Rattle.std.specs.Prelude.{◌≡◌, Err, IfOk};
+ghost use Rattle.std.specs.Prelude.{◌≡◌, Err, IfOk, OnErr};
 ghost use Rattle.std.specs.Process.{exit_status};
-ghost use Rattle.poke_tool.specs.Runs.{Ends};
-ghost use Rattle.textpoke.specs.Program.{Gives, RunsProgram, after_name, args_fault};
+ghost use Rattle.poke_tool.specs.Command.{words_of};
+ghost use Rattle.poke_tool.specs.Runs.{Ends, Runs};
+ghost use Rattle.textpoke.specs.Program.{Gives, RunsProgram, RunsWords, after_name, args_fault};
 
+use live_engine::OpenGate;
 use poke_base::Host;
 use poke_tool::{Fault, textpoke};
 use std::alloc::{AllocError, Global};
@@ -11,19 +13,55 @@ use std::env::Args;
 use std::io;
 use std::io::ErrorKind;
 use std::process::ExitCode;
+use std::thread::Threads;
+use tracer_ops::{Count, LastSites, Tracer};
 
 /// Does the command that the arguments after the program's name are. The exit code is the status that
 /// `textpoke` answered.
 ///
-/// Where the arguments weren't read or there was no memory for them, that is reported, and the exit
+/// Where the arguments weren't read or there was no memory for them or for the tracers, that is reported, and the exit
 /// code is the status of that fault: 1 for an argument that isn't UTF-8, 7 for out of memory.
-pub fn run<H: Host>(alloc: Global, args: io::Result<Args>, host: &mut H) -> ExitCode
+pub fn run<R: Threads + AllocGlobal + Sync, H: Host>(
+    rt: &R,
+    args: io::Result<Args>,
+    host: &mut H,
+) -> ExitCode
     ensures { RunsProgram args (H.outside host.old) (H.outside host.new) (exit_status result) }
 {
-    match words(alloc, args) {
-        Ok(words) => ExitCode::from(textpoke(alloc, &words, host)),
+    match words(rt.alloc(), args) {
+        Ok(words) => ExitCode::from(do_words(rt, &words, host)),
         Err(fault) => ExitCode::from(report(fault, host)),
     }
+}
+
+/// Does the command that the words are; where there is no memory for its tracers, that is reported.
+fn do_words<R: Threads + AllocGlobal + Sync, H: Host>(rt: &R, words: &[String], host: &mut H) -> u8
+    ensures { RunsWords (words_of words.now) (H.outside host.old) (H.outside host.new) result }
+{
+    match do_traced(rt, words, host) {
+        Ok(status) => status,
+        Err(_) => report(Fault::Memory, host),
+    }
+}
+
+/// Does the command that the words are, with tracers of its own: one that counts, and one that keeps the last sites too. No
+/// worker is held.
+///
+/// # Errors
+/// Out of memory; nothing was done.
+fn do_traced<R: Threads + AllocGlobal + Sync, H: Host>(
+    rt: &R,
+    words: &[String],
+    host: &mut H,
+) -> Result<u8, AllocError>
+    ensures runs { IfOk result (Runs (words_of words.now) (H.outside host.old) (H.outside host.new)) }
+    ensures nothing { OnErr result (H.outside host.new ≡ H.outside host.old) }
+{
+    let alloc = rt.alloc();
+    let mut tracers: Vec<Box<dyn Tracer>> = Vec::new(alloc);
+    tracers.push(Box::new(alloc, Count::new())?)?;
+    tracers.push(Box::new(alloc, LastSites::new())?)?;
+    Ok(textpoke(rt, words, host, &mut tracers, &OpenGate))
 }
 
 /// Reports a fault, and answers its status, whether the complaint goes out or not.

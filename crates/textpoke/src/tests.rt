@@ -73,7 +73,7 @@ fn the_exit_code_is_the_status(rt: HostRuntime) -> Result<(), Fail> {
     for (name, args, status, printed, reported) in rows {
         let mut host = MemoryHost::new(alloc);
         host.put("p", PLAN)?;
-        let code = run(alloc, env::args(&(Given(args), alloc)), &mut host);
+        let code = run(&rt, env::args(&(Given(args), alloc)), &mut host);
         assert_eq!(rt; host.complained(), reported, "{name}");
         assert_eq!(rt; host.printed(), printed, "{name}");
         assert_eq!(rt; code, ExitCode::from(status), "{name}");
@@ -91,14 +91,14 @@ fn arguments_that_were_not_read_are_reported(rt: HostRuntime) -> Result<(), Fail
     let alloc = rt.alloc();
     for (why, status, reported) in rows {
         let mut host = MemoryHost::new(alloc);
-        let code = run(alloc, Err(io::Error::from(why)), &mut host);
+        let code = run(&rt, Err(io::Error::from(why)), &mut host);
         assert_eq!(rt; host.complained(), reported);
         assert_eq!(rt; code, ExitCode::from(status));
 
         // A complaint that fails changes no status.
         let mut host = MemoryHost::new(alloc);
         host.fail_at(1)?;
-        let code = run(alloc, Err(io::Error::from(why)), &mut host);
+        let code = run(&rt, Err(io::Error::from(why)), &mut host);
         assert!(rt; reported.starts_with(host.complained()));
         assert!(rt; host.complained().len() < reported.len());
         assert_eq!(rt; code, ExitCode::from(status));

@@ -5,7 +5,7 @@ use Rattle.poke_tool.specs.Command.{Make, Row, row_of, words_of}
 use Rattle.poke_tool.specs.Endings.{EndsMaking, EndsSaying}
 use Rattle.poke_tool.specs.Runs.{RunsRow}
 use Rattle.poke_tool.proofs.Endings.{asks_in_order, bad_words, ends_aloud, ends_making, ends_saying, leaves_all, makes_nothing, read_fault, write_fault}
-use Rattle.poke_tool.proofs.Headlines.{headline_of, shows_run}
+use Rattle.poke_tool.proofs.Headlines.{headline_of, shows_run, shows_walks}
 use Rattle.poke_tool.proofs.top.textpoke.Goals as goal
 
 -- the sentences on a command
@@ -27,7 +27,7 @@ returns-in-Err g c =
     let runs : RunsRow words old new c.status.result = record {
       middle = middle;
       result = Err c.in-Err.fault;
-      does = c.in-Err.ensures;
+      does = c.in-Err.ensures.does;
       ends = (
         c.status.ensures,
         (
@@ -52,25 +52,27 @@ returns-in-Err g c =
       only_new_after_return = λ r shown. (headline_of words old new r shown).only_new_after_return;
       holds_what_is_wanted = λ r shown. (headline_of words old new r shown).holds_what_is_wanted;
       ends_as_commands = λ r shown. (headline_of words old new r shown).ends_as_commands;
+      shows_walks = λ zero. shows_walks words old new _ runs zero;
+      feeds = record { middle = middle; result = Err c.in-Err.fault; feeds = c.in-Err.ensures.feeds; ends = runs.ends };
       says = says_of words old new _ runs;
       makes = makes_of words old new _ runs;
     }
 
 pub returns-in-Ok-clause-says : goal.returns-in-Ok-clause-says
 returns-in-Ok-clause-says g c =
-    says_of (row_of (words_of c.args.words.now)) _ _ _ (record { middle = g.H.Host.outside c.do_command.new.host; result = Ok c.in-Ok.field-0; does = c.in-Ok.ensures; ends = (refl, refl) })
+    says_of (row_of (words_of c.args.words.now)) _ _ _ (record { middle = g.H.Host.outside c.do_command.new.host; result = Ok c.in-Ok.field-0; does = c.in-Ok.ensures.does; ends = (refl, refl) })
 
 pub returns-in-Ok-clause-makes : goal.returns-in-Ok-clause-makes
 returns-in-Ok-clause-makes g c =
-    makes_of (row_of (words_of c.args.words.now)) _ _ _ (record { middle = g.H.Host.outside c.do_command.new.host; result = Ok c.in-Ok.field-0; does = c.in-Ok.ensures; ends = (refl, refl) })
+    makes_of (row_of (words_of c.args.words.now)) _ _ _ (record { middle = g.H.Host.outside c.do_command.new.host; result = Ok c.in-Ok.field-0; does = c.in-Ok.ensures.does; ends = (refl, refl) })
 
 pub returns-in-Ok-clause-asks_in_order : goal.returns-in-Ok-clause-asks_in_order
 returns-in-Ok-clause-asks_in_order g c =
-    asks_in_order (row_of (words_of c.args.words.now)) _ _ _ (record { middle = g.H.Host.outside c.do_command.new.host; result = Ok c.in-Ok.field-0; does = c.in-Ok.ensures; ends = (refl, refl) })
+    asks_in_order (row_of (words_of c.args.words.now)) _ _ _ (record { middle = g.H.Host.outside c.do_command.new.host; result = Ok c.in-Ok.field-0; does = c.in-Ok.ensures.does; ends = (refl, refl) })
 
 pub returns-in-Ok-clause-shows_a_run : goal.returns-in-Ok-clause-shows_a_run
 returns-in-Ok-clause-shows_a_run g c zero of =
-    shows_run (row_of (words_of c.args.words.now)) _ _ _ (record { middle = g.H.Host.outside c.do_command.new.host; result = Ok c.in-Ok.field-0; does = c.in-Ok.ensures; ends = (refl, refl) }) of zero
+    shows_run (row_of (words_of c.args.words.now)) _ _ _ (record { middle = g.H.Host.outside c.do_command.new.host; result = Ok c.in-Ok.field-0; does = c.in-Ok.ensures.does; ends = (refl, refl) }) of zero
 
 pub returns-in-Ok-clause-is_switched : goal.returns-in-Ok-clause-is_switched
 returns-in-Ok-clause-is_switched g c r shown = (headline_of (row_of (words_of c.args.words.now)) _ _ r shown).switched
@@ -89,3 +91,11 @@ returns-in-Ok-clause-holds_what_is_wanted g c r shown = (headline_of (row_of (wo
 
 pub returns-in-Ok-clause-ends_as_commands : goal.returns-in-Ok-clause-ends_as_commands
 returns-in-Ok-clause-ends_as_commands g c r shown = (headline_of (row_of (words_of c.args.words.now)) _ _ r shown).ends_as_commands
+
+pub returns-in-Ok-clause-shows_walks : goal.returns-in-Ok-clause-shows_walks
+returns-in-Ok-clause-shows_walks g c zero =
+    shows_walks (row_of (words_of c.args.words.now)) _ _ _ (record { middle = g.H.Host.outside c.do_command.new.host; result = Ok c.in-Ok.field-0; does = c.in-Ok.ensures.does; ends = (refl, refl) }) zero
+
+pub returns-in-Ok-clause-feeds : goal.returns-in-Ok-clause-feeds
+returns-in-Ok-clause-feeds g c =
+    record { middle = g.H.Host.outside c.do_command.new.host; result = Ok c.in-Ok.field-0; feeds = c.in-Ok.ensures.feeds; ends = (refl, refl) }

@@ -1,0 +1,35 @@
+mod Examples
+mod Searches
+mod Lookups
+mod Chunks
+mod SiteForms
+mod Phased
+mod FetchSteps
+mod Floors
+mod DecodedForms
+mod Pairing
+mod Passing
+mod PlannedSites
+mod Alike
+mod Walking
+mod Treading
+mod Handled
+mod Looking
+mod LastBytes
+mod FormsAfter
+mod StandingChunks
+pub mod Updates
+mod MadeChunks
+mod LivePlans
+mod FinishedBytes
+mod CrewWalks
+pub mod LastForms
+mod ReadyJobs
+mod CrewStarts
+mod WantedVersions
+mod StartUnits
+mod TurnViews
+mod TurnEnds
+mod Passed
+mod TurnLooks
+mod RunWalks

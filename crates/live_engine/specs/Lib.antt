@@ -1,0 +1,15 @@
+pub mod Versions
+pub mod FirstForms
+pub mod LivePlan
+pub mod LiveCpu
+pub mod Lookup
+pub mod Look
+pub mod Fetch
+pub mod Turns
+pub mod Fetched
+pub mod LivePatch
+pub mod Walks
+pub mod LiveRun
+pub mod Crew
+pub mod CpuInside
+pub mod PatchInside

@@ -1,0 +1,285 @@
+//! Plans of small modules, and modules that run on threads.
+ghost use Rattle.std.specs.Prelude.{IfOk};
+ghost use Rattle.script_text.specs.Laws.{IsScriptOf};
+
+use crate::{Gate, LiveRun, OpenGate, Turn, live_plan, run_live};
+use elf_build::{KeyStart, Name, Plan, PlanFunction, PlanKey, PlanSite, write};
+use elf_module::ElfFile;
+use insn_forms::{Change, Form};
+use live_text::LiveSite;
+use module_image::Image;
+use script_text::Script;
+use std::alloc::Global;
+use std::process::Abort;
+use std::sync::atomic::{AtomicU64, Ordering};
+use std::test::Fail;
+use std::thread::Threads;
+use x64_subset::Mark;
+
+/// Where the text of each module stands.
+const F: u64 = 0x40_1000;
+
+/// A text with its sites, keys and functions.
+struct Small<'a> {
+    text: &'a [u8],
+    sites: &'a [PlanSite],
+    keys: &'a [(&'a [u8], KeyStart)],
+    functions: &'a [(&'a [u8], u64)],
+}
+
+/// A switch of five bytes at the text's beginning that leads to what is after it.
+const SWITCH: PlanSite = PlanSite::Jump {
+    at: F,
+    target: F + 5,
+    key: 0,
+    likely: false,
+};
+
+/// A key that is off.
+const KEY: (&[u8], KeyStart) = (b"k", KeyStart::Count(0));
+
+/// The function at the text's beginning.
+const START: (&[u8], u64) = (b"f", F);
+
+/// A switch, and a jump back to it.
+const SPIN: Small<'static> = Small {
+    text: b"\x0f\x1fD\0\0\xeb\xf9",
+    sites: &[SWITCH],
+    keys: &[KEY],
+    functions: &[START],
+};
+
+/// A switch between two loads, and functions that end at once.
+const BRANCH: Small<'static> = Small {
+    text: b"\x0f\x1fD\0\0\xb8\x01\0\0\0\xe6\x10\xc3\xcc\xb8\x02\0\0\0\xe6\x10\xc3",
+    sites: &[PlanSite::Jump {
+        at: F,
+        target: F + 14,
+        key: 0,
+        likely: false,
+    }],
+    keys: &[KEY],
+    functions: &[START, (b"leaf", F + 12), (b"brk", F + 13)],
+};
+
+/// Two switches of different keys, one after the other, and a jump back.
+const PAIR: Small<'static> = Small {
+    text: b"\x66\x90\x0f\x1fD\0\0\xeb\xf7",
+    sites: &[
+        PlanSite::Jump {
+            at: F,
+            target: F + 2,
+            key: 0,
+            likely: false,
+        },
+        PlanSite::Jump {
+            at: F + 2,
+            target: F + 7,
+            key: 1,
+            likely: false,
+        },
+    ],
+    keys: &[KEY, (b"l", KeyStart::Count(0))],
+    functions: &[START],
+};
+
+/// A name of these bytes.
+fn name(bytes: &[u8]) -> Name {
+    let mut name = Name::new();
+    let _ = name.try_extend_from_slice(bytes);
+    name
+}
+
+/// The file of a module.
+fn file(alloc: Global, small: &Small<'_>) -> Result<Vec<u8>, Fail> {
+    let mut plan = Plan {
+        base: F,
+        text: Vec::from_slice(alloc, small.text)?,
+        sites: Vec::from_slice(alloc, small.sites)?,
+        keys: Vec::new(alloc),
+        functions: Vec::new(alloc),
+    };
+    for (bytes, start) in small.keys {
+        plan.keys.push(PlanKey {
+            name: name(bytes),
+            start: *start,
+        })?;
+    }
+    for (bytes, at) in small.functions {
+        plan.functions.push(PlanFunction {
+            name: name(bytes),
+            at: *at,
+        })?;
+    }
+    let mut out = Vec::new(alloc);
+    if plan.fits() {
+        write(&plan, &mut out)?;
+    }
+    Ok(out)
+}
+
+/// The module.
+fn image(rt: &impl Abort, alloc: Global, small: &Small<'_>) -> Result<Image, Fail> {
+    let file = file(alloc, small)?;
+    assert!(rt; file.len() < 10_000);
+    Ok(Image::accept(alloc, &ElfFile::read(&file)?)?)
+}
+
+/// An instruction that shows nothing.
+const RAN: Turn = Turn::Ran(Mark::None);
+
+/// A pass of a site that shows nothing.
+fn pass(site: u32, form: Form, version: u32, ack: u64) -> Turn {
+    Turn::Pass {
+        site,
+        form,
+        version,
+        ack,
+        mark: Mark::None,
+    }
+}
+
+/// A script of the module.
+fn script(rt: &impl Abort, alloc: Global, text: &[u8], image: &Image) -> Result<Script, Fail>
+    ensures { IfOk result (IsScriptOf image.now) }
+{
+    assert!(rt; text.len() < 1_000);
+    Ok(Script::read(alloc, text, image)?)
+}
+
+#[test]
+fn a_plan_has_the_chunks_of_updates_that_are_done(rt: HostRuntime) -> Result<(), Fail> {
+    let alloc = rt.alloc();
+    let image = image(&rt, alloc, &PAIR)?;
+    let text = b"cpu f\ndec k\ninc k\ninc k\ndec k\ninc l\ndec k";
+    let script = script(&rt, alloc, text, &image)?;
+    let plan = live_plan(alloc, &image, &script)?;
+    let near = LiveSite {
+        at: F,
+        start: Form::Nop2,
+    };
+    let far = LiveSite {
+        at: F + 2,
+        start: Form::Nop5,
+    };
+    assert_eq!(rt; plan.sites.as_slice(), [near, far].as_slice());
+    let on = Change {
+        at: F,
+        old: Form::Nop2,
+        new: Form::Jmp8(F + 2),
+    };
+    let other = Change {
+        at: F + 2,
+        old: Form::Nop5,
+        new: Form::Jmp32(F + 7),
+    };
+    let off = Change {
+        at: F,
+        old: on.new,
+        new: on.old,
+    };
+    assert_eq!(rt; plan.chunks.len(), 3);
+    assert_eq!(rt; plan.chunks[0].as_slice(), [on].as_slice());
+    assert_eq!(rt; plan.chunks[1].as_slice(), [other].as_slice());
+    assert_eq!(rt; plan.chunks[2].as_slice(), [off].as_slice());
+    Ok(())
+}
+
+/// A live run of a script.
+fn lives<R: Abort + AllocGlobal + Threads + Sync, G: Gate + Sync>(
+    rt: &R,
+    small: &Small<'_>,
+    text: &[u8],
+    turns: u32,
+    gate: &G,
+) -> Result<LiveRun, Fail> {
+    let alloc = rt.alloc();
+    let image = image(rt, alloc, small)?;
+    let script = script(rt, alloc, text, &image)?;
+    Ok(run_live(rt, alloc, &image, &script, turns, 1, gate)?)
+}
+
+#[test]
+fn a_processor_ends_before_the_first_update(rt: HostRuntime) -> Result<(), Fail> {
+    let run = lives(&rt, &BRANCH, b"cpu leaf\ninc k", 1, &OpenGate)?;
+    assert_eq!(rt; run.walks.len(), 1);
+    let ended = [Turn::Ran(Mark::Ended)];
+    assert_eq!(rt; run.walks[0].as_slice(), ended.as_slice());
+    assert_eq!(rt; run.sites.as_slice(), b"\xe9\x09\0\0\0".as_slice());
+    Ok(())
+}
+
+#[test]
+fn a_run_without_updates_passes_the_old_forms(rt: HostRuntime) -> Result<(), Fail> {
+    let run = lives(&rt, &SPIN, b"cpu f", 4, &OpenGate)?;
+    assert_eq!(rt; run.walks.len(), 1);
+    let old = pass(0, Form::Nop5, 0, 0);
+    assert_eq!(rt; run.walks[0].as_slice(), [old, RAN, old, RAN].as_slice());
+    assert_eq!(rt; run.sites.as_slice(), b"\x0f\x1fD\0\0".as_slice());
+    Ok(())
+}
+
+#[test]
+fn a_run_of_no_turns_ends_the_updates(rt: HostRuntime) -> Result<(), Fail> {
+    let run = lives(&rt, &PAIR, b"cpu f\ninc k\ninc l", 0, &OpenGate)?;
+    assert_eq!(rt; run.walks.len(), 1);
+    assert!(rt; run.walks[0].is_empty());
+    assert_eq!(rt; run.sites.as_slice(), b"\xeb\0\xe9\0\0\0\0".as_slice());
+    Ok(())
+}
+
+/// Counts the turns of the first workers.
+#[derive(Drop)]
+struct Counter {
+    patch: AtomicU64,
+    first: AtomicU64,
+    last: AtomicU64,
+}
+
+impl Gate for Counter {
+    fn pass(&self, who: u8, _turn: u32) {
+        match who {
+            0 => self.patch.fetch_add(1, Ordering::SeqCst),
+            1 => self.first.fetch_add(1, Ordering::SeqCst),
+            16 => self.last.fetch_add(1, Ordering::SeqCst),
+            _ => 0,
+        };
+    }
+}
+
+/// Checks a pass of the one site: the old form before the update, the new one after it.
+fn passes_whole(rt: &impl Abort, turn: Turn) {
+    if let Turn::Pass { form, version, .. } = turn {
+        let want = if version == 0 {
+            Form::Nop5
+        } else {
+            Form::Jmp32(F + 5)
+        };
+        assert_eq!(rt; form, want);
+    }
+}
+
+#[test]
+fn sixteen_processors_run_beside_the_patch(rt: HostRuntime) -> Result<(), Fail> {
+    let text =
+        b"cpu f\ncpu f\ncpu f\ncpu f\ncpu f\ncpu f\ncpu f\ncpu f\ncpu f\ncpu f\ncpu f\ncpu f\ncpu f\ncpu f\ncpu f\ncpu f\ninc k";
+    let gate = Counter {
+        patch: AtomicU64::new(0),
+        first: AtomicU64::new(0),
+        last: AtomicU64::new(0),
+    };
+    let run = lives(&rt, &SPIN, text, 200, &gate)?;
+    assert_eq!(rt; run.sites.as_slice(), b"\xe9\0\0\0\0".as_slice());
+    assert_eq!(rt; run.walks.len(), 16);
+    for walk in &run.walks {
+        assert!(rt; 100 <= walk.len() && walk.len() <= 200);
+        for turn in walk {
+            passes_whole(&rt, *turn);
+        }
+    }
+    assert_eq!(rt; gate.first.load(Ordering::SeqCst), 200);
+    assert_eq!(rt; gate.last.load(Ordering::SeqCst), 200);
+    let patched = gate.patch.load(Ordering::SeqCst);
+    assert!(rt; 1 <= patched && patched <= 200);
+    Ok(())
+}

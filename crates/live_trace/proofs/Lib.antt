@@ -1,0 +1,4 @@
+pub mod Dropping
+pub mod WalkLines
+pub mod SiteTexts
+pub mod LastSites

@@ -1,0 +1,2 @@
+pub mod WalkText
+pub mod SiteText
