@@ -38,12 +38,14 @@ length-short at bytes fit short =
     omega arith
 
 -- an instruction is read of its own bytes
-own_bytes : (at : ℕ) (bytes : List ℕ) (insn : Insn) (len : ℕ) → AreBytes bytes → read at bytes ≡ Ok (insn, len) → read at (take len bytes) ≡ Ok (insn, length (take len bytes))
-own_bytes at bytes insn len fit e =
-    let place = read_stands at bytes insn len fit e in
+pub own_stands : (at : ℕ) (bytes : List ℕ) (insn : Insn) (len : ℕ) → Stands insn len at bytes → read at (take len bytes) ≡ Ok (insn, length (take len bytes))
+own_stands at bytes insn len place =
     let own = stands_spelt insn at (take len bytes) [] place.spelt in
     stands_read at (take len bytes) insn (length (take len bytes))
     (subst (λ (l : List ℕ). Stands insn (length (take len bytes)) at l) (append-nil (take len bytes)) own)
+
+own_bytes : (at : ℕ) (bytes : List ℕ) (insn : Insn) (len : ℕ) → AreBytes bytes → read at bytes ≡ Ok (insn, len) → read at (take len bytes) ≡ Ok (insn, length (take len bytes))
+own_bytes at bytes insn len fit e = own_stands at bytes insn len (read_stands at bytes insn len fit e)
 
 -- an instruction that it took all bytes to tell has all of them
 whole_insn : (at : ℕ) (bytes : List ℕ) (insn : Insn) (len : ℕ) → AreBytes bytes → HasShortPrefixes at bytes → read at bytes ≡ Ok (insn, len) → len ≡ length bytes

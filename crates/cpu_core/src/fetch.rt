@@ -13,8 +13,54 @@ use poke_base::CodeBytes;
 use stale_fetch::Text;
 use x64_subset::{Undecoded, decode};
 
-/// What a processor fetches at an address inside of the text, where a word picks each byte.
+/// How many bytes the longest form of a patched site has.
+const FORM: usize = 5;
+
+/// What a processor fetches at an address inside of the text, where a word picks each byte: mostly it is a form, so as many
+/// bytes as the longest has are picked first, and what follows the instruction is left.
 pub(crate) fn fetch<T: Text>(cpu: u8, text: &T, at: u64, word: u64) -> CodeBytes
+    requires stands { IsStanding (T.stands text.now) }
+    requires known { cpu < (T.shape text.now).cpus }
+    requires inside { Covers (T.shape text.now) at }
+    ensures fetch { (p : Past) → T.stands text.now p → IsFetch (end_of p) at result.items }
+    ensures picked { (p : Past) → T.stands text.now p → ArePicked word p cpu at result.items }
+    ensures some { 1 ≤ length result.items }
+{
+    let mut bytes = pick_form(cpu, text, at, word);
+    match decode(at, &bytes) {
+        Ok((_, len)) => {
+            bytes.truncate(usize::from(len));
+            bytes
+        }
+        Err(_) => fetch_each(cpu, text, at, word),
+    }
+}
+
+/// The bytes that a word picks at an address inside of the text: as many as the longest form has, or fewer where the text ends
+/// before.
+fn pick_form<T: Text>(cpu: u8, text: &T, at: u64, word: u64) -> CodeBytes
+    requires stands { IsStanding (T.stands text.now) }
+    requires known { cpu < (T.shape text.now).cpus }
+    requires inside { Covers (T.shape text.now) at }
+    ensures inside { (p : Past) → T.stands text.now p → at + length result.items ≤ end_of p }
+    ensures picked { (p : Past) → T.stands text.now p → ArePicked word p cpu at result.items }
+{
+    let mut bytes = CodeBytes::new();
+    let mut choices = word;
+    'bytes: while bytes.len() < FORM {
+        if !goes_on(text, at, &bytes) {
+            break 'bytes;
+        }
+        let place = at + bytes.len() as u64;
+        bytes.push(pick(cpu, text, place, low_byte(choices)));
+        choices >>= 8;
+    }
+    bytes
+}
+
+/// What a processor fetches at an address inside of the text, where a word picks each byte: one after the other, until they tell
+/// what they are.
+fn fetch_each<T: Text>(cpu: u8, text: &T, at: u64, word: u64) -> CodeBytes
     requires stands { IsStanding (T.stands text.now) }
     requires known { cpu < (T.shape text.now).cpus }
     requires inside { Covers (T.shape text.now) at }
@@ -46,9 +92,16 @@ fn wants_more<T: Text>(text: &T, at: u64, bytes: &[u8]) -> bool
     requires to { at + length bytes.now ≤ (T.shape text.now).base + (T.shape text.now).size }
     ensures { IsTrue result ↔ ((read at bytes.now ≡ Err Short) × Covers (T.shape text.now) (at + length bytes.now)) }
 {
-    if !is_short(at, bytes) {
-        return false;
-    }
+    is_short(at, bytes) && goes_on(text, at, bytes)
+}
+
+/// Whether the text goes on after the bytes from an address on.
+fn goes_on<T: Text>(text: &T, at: u64, bytes: &[u8]) -> bool
+    requires stands { IsStanding (T.stands text.now) }
+    requires from { (T.shape text.now).base ≤ at }
+    requires to { at + length bytes.now ≤ (T.shape text.now).base + (T.shape text.now).size }
+    ensures { IsTrue result ↔ Covers (T.shape text.now) (at + length bytes.now) }
+{
     text.held(at + bytes.len() as u64).is_some()
 }
 

@@ -6,21 +6,19 @@ ghost use Rattle.stale_fetch.specs.Windows.{IsWindowsOf, window_shape};
 ghost use Rattle.cpu_core.specs.Standing.{IsStanding};
 
 use crate::{Cpu, Stepped, TurnKind};
-use elf_build::{KeyStart, Name, Plan, PlanKey, PlanSite, write};
+use elf_build::{KeyStart, PlanSite};
 use elf_module::ElfFile;
 use insn_forms::{Change, Changes, Form, Held};
 use int3_handler::Handled;
 use module_image::Image;
 use poke_base::CodeBytes;
 use poke_batch::{Batch, Due};
+use small_module::{F, Small};
 use stale_fetch::{LogText, Text, WindowText};
 use std::alloc::Global;
 use std::process::Abort;
 use std::test::Fail;
 use x64_subset::{FaultKind, Insn, Life, Mark};
-
-/// Where the texts begin.
-const F: u64 = 0x40_1000;
 
 /// A no-operation of five bytes.
 const NOP: [u8; 5] = [0x0f, 0x1f, 0x44, 0x00, 0x00];
@@ -186,32 +184,15 @@ fn words_pick_bytes(rt: HostRuntime) {
     picks_bytes(&rt, &mut log_text(&rt, rt.alloc(), &code));
 }
 
-/// The file of a text with these sites, which have one key.
-fn file(alloc: Global, code: &[u8], sites: &[PlanSite]) -> Result<Vec<u8>, Fail> {
-    let mut keys = Vec::new(alloc);
-    let mut name = Name::new();
-    let _ = name.try_push(b'k');
-    keys.push(PlanKey {
-        name,
-        start: KeyStart::Count(0),
-    })?;
-    let plan = Plan {
-        base: F,
-        text: Vec::from_slice(alloc, code)?,
-        sites: Vec::from_slice(alloc, sites)?,
-        keys,
-        functions: Vec::new(alloc),
-    };
-    let mut file = Vec::new(alloc);
-    if plan.fits() {
-        write(&plan, &mut file)?;
-    }
-    Ok(file)
-}
-
-/// The accepted module of such a file.
+/// The accepted module of a text with these sites, which have one key.
 fn module(rt: &impl Abort, alloc: Global, code: &[u8], sites: &[PlanSite]) -> Result<Image, Fail> {
-    let file = file(alloc, code, sites)?;
+    let small = Small {
+        text: code,
+        sites,
+        keys: &[(b"k", KeyStart::Count(0))],
+        functions: &[],
+    };
+    let file = small.file(alloc)?;
     assert!(rt; file.len() < 10_000);
     Ok(Image::accept(alloc, &ElfFile::read(&file)?)?)
 }

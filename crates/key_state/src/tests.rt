@@ -5,28 +5,19 @@ ghost use Rattle.module_image.specs.Command.{IsCommandOf};
 
 use crate::count::count_after;
 use crate::{CountRefused, Keys, Outcome, Settled};
-use elf_build::{KeyStart, Name, Plan, PlanFunction, PlanKey, PlanSite, write};
+use elf_build::{KeyStart, PlanSite};
 use elf_module::ElfFile;
 use insn_forms::{Change, Form, Held};
 use module_image::{Command, Image, KeyClass};
 use poke_base::code_bytes;
 use poke_batch::Clash;
+use small_module::{F, Small};
 use std::alloc::Global;
 use std::process::Abort;
 use std::test::Fail;
 
-/// Where the text of each module stands.
-const F: u64 = 0x40_1000;
-
 /// The greatest count of a key.
 const GREATEST: u32 = 2_147_483_647;
-
-/// A name of these bytes.
-fn name(bytes: &[u8]) -> Name {
-    let mut name = Name::new();
-    let _ = name.try_extend_from_slice(bytes);
-    name
-}
 
 /// A module of a text with these sites, one key `k`, and one function.
 fn module<R: Abort + AllocGlobal>(
@@ -37,25 +28,13 @@ fn module<R: Abort + AllocGlobal>(
     function: (&[u8], u64),
 ) -> Result<Image, Fail> {
     let alloc = rt.alloc();
-    let mut plan = Plan {
-        base: F,
-        text: Vec::from_slice(alloc, text)?,
-        sites: Vec::from_slice(alloc, sites)?,
-        keys: Vec::new(alloc),
-        functions: Vec::new(alloc),
+    let small = Small {
+        text,
+        sites,
+        keys: &[(b"k", key)],
+        functions: &[function],
     };
-    plan.keys.push(PlanKey {
-        name: name(b"k"),
-        start: key,
-    })?;
-    plan.functions.push(PlanFunction {
-        name: name(function.0),
-        at: function.1,
-    })?;
-    let mut bytes = Vec::new(alloc);
-    if plan.fits() {
-        write(&plan, &mut bytes)?;
-    }
+    let bytes = small.file(alloc)?;
     assert!(rt; bytes.len() < 10_000);
     Ok(Image::accept(alloc, &ElfFile::read(&bytes)?)?)
 }

@@ -1,11 +1,9 @@
 -- The walks of the processors of a run, by number.
-use Rattle.std.proofs.Common.{◌≡◌, ◌∙◌, ℕ, zero, suc, List, [], ◌∷◌, ◌++◌, map, All, sym, subst}
+use Rattle.std.proofs.Common.{◌≡◌, ℕ, List, [], ◌∷◌, map, All, subst}
 use Rattle.std.specs.List.{AllZip}
 use Rattle.std.proofs.lemmas.List.Elements.{All-head, All-tail}
 use Rattle.live_text.specs.declared.plan.LivePlan.{LivePlan}
 use Rattle.module_image.specs.Module.{Module}
-use Rattle.script_text.specs.Script.{ScriptValue}
-use Rattle.live_engine.specs.declared.cpu.Turn.{Turn}
 use Rattle.live_engine.specs.declared.job.Job.{Job}
 use Rattle.live_engine.specs.LiveRun.{IsDone}
 use Rattle.live_engine.specs.Walks.{IsWalk}

@@ -1,6 +1,6 @@
 -- The bytes of all sites when all writes of a plan are done: those of each site's last form.
-use Rattle.std.proofs.Common.{◌≡◌, ◌∙◌, ◌+◌, ◌-◌, ◌*◌, ◌/◌, ◌%◌, ◌<◌, ◌≤◌, inl, inr, ℕ, zero, suc, List, [], ◌∷◌, ◌++◌, length, get_or, take, None, refl, sym, ap, subst, arith, length-append}
-use Rattle.std.specs.Prelude.{IsNone, slice_index}
+use Rattle.std.proofs.Common.{◌≡◌, ◌∙◌, ◌+◌, ◌-◌, ◌*◌, ◌/◌, ◌<◌, ◌≤◌, inl, inr, ℕ, suc, List, [], ◌∷◌, length, get_or, take, None, sym, ap, subst, arith, length-append}
+use Rattle.std.specs.Prelude.{slice_index}
 use Rattle.std.specs.List.{flat_map, position}
 use Rattle.std.specs.Option.{is_some}
 use Rattle.std.proofs.lemmas.Bool.{cases_lt}
@@ -8,7 +8,6 @@ use Rattle.std.proofs.lemmas.List.{get_or-take, get_or_default, get_or_past, len
 use Rattle.std.proofs.lemmas.List.Concat.{get_or-flat_map}
 use Rattle.insn_forms.specs.declared.forms.Change.{Change}
 use Rattle.insn_forms.specs.declared.forms.Form.TheVariants.{Nop2}
-use Rattle.insn_forms.specs.Spelling.{size}
 use Rattle.live_text.specs.declared.plan.LivePlan.{LivePlan}
 use Rattle.live_text.specs.declared.plan.LiveSite.{LiveSite}
 use Rattle.live_text.specs.declared.view.View.{View}
@@ -18,7 +17,7 @@ use Rattle.live_text.specs.Own.{AreBytes, HasByte, byte_number, site_of}
 use Rattle.live_text.specs.Past.{cut, value}
 use Rattle.live_text.specs.Plan.{Stands, chunks_of, form_after}
 use Rattle.live_text.specs.Seats.{NoneDue}
-use Rattle.live_text.specs.Versions.{is_at, place_in, version}
+use Rattle.live_text.specs.Versions.{is_at, place_in}
 use Rattle.poke_batch.specs.Poke.{spelled}
 use Rattle.live_engine.specs.LivePlan.{last_bytes}
 use Rattle.live_engine.proofs.FetchSteps.{length-spelled}

@@ -1,12 +1,9 @@
 -- The bytes of all sites after all chunks: how many there are, and that they are what a finished plan leaves.
-use Rattle.std.proofs.Common.{◌≡◌, ◌+◌, ◌*◌, ◌-◌, ◌<◌, ◌≤◌, ◌/◌, ◌%◌, ◌∙◌, ℕ, zero, suc, List, [], ◌∷◌, ◌++◌, length, get_or, map, take, drop, Option, Some, None, refl, ap, sym, subst, arith, length-append}
-use Rattle.std.specs.Prelude.{slice_index}
+use Rattle.std.proofs.Common.{◌≡◌, ◌+◌, ◌*◌, ◌<◌, ◌∙◌, ℕ, suc, List, [], ◌∷◌, length, get_or, map, take, refl, ap, sym, arith, length-append}
 use Rattle.std.specs.List.{flat_map}
 use Rattle.std.proofs.lemmas.List.{get_or_default, length-map, take_all}
 use Rattle.insn_forms.specs.declared.forms.Change.{Change}
-use Rattle.insn_forms.specs.declared.forms.Form.{Form}
 use Rattle.insn_forms.specs.declared.forms.Form.TheVariants.{Nop2}
-use Rattle.insn_forms.specs.Spelling.{size}
 use Rattle.insn_forms.specs.Write.{Write}
 use Rattle.live_text.specs.declared.plan.LivePlan.{LivePlan}
 use Rattle.live_text.specs.declared.plan.LiveSite.{LiveSite}

@@ -1,5 +1,5 @@
 -- After all chunks of a script's plan each patched site has the form that it wants after all of its updates.
-use Rattle.std.proofs.Common.{◌≡◌, ◌∙◌, ℕ, List, [], ◌∷◌, ◌++◌, All, sym, subst, append-nil}
+use Rattle.std.proofs.Common.{List, [], ◌∷◌, ◌++◌, All, sym, subst, append-nil}
 use Rattle.std.proofs.lemmas.List.{append_assoc}
 use Rattle.std.proofs.lemmas.List.Elements.{All-head, All-tail}
 use Rattle.insn_forms.specs.declared.forms.Change.{Change}

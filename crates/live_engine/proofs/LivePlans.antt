@@ -1,10 +1,10 @@
 -- A plan whose sites are the patched ones, each with the form that it wants at first, and whose chunks are those of the updates of a script.
-use Rattle.std.proofs.Common.{◌≡◌, ◌∙◌, ◌+◌, ◌-◌, ◌*◌, ◌^◌, ◌<◌, ◌≤◌, ℕ, zero, suc, Bool, true, false, not, cond, List, [], ◌∷◌, length, map, filter, drop, All, AllPairs, Some, refl, sym, ap, subst, arith, length-drop}
+use Rattle.std.proofs.Common.{◌≡◌, ◌∙◌, ◌+◌, ◌-◌, ◌^◌, ◌<◌, ◌≤◌, ℕ, zero, suc, Bool, true, false, not, cond, List, [], ◌∷◌, length, filter, drop, All, AllPairs, Some, refl, sym, ap, subst, arith, length-drop}
 use Rattle.std.specs.Prelude.{IsSome, slice_get}
 use Rattle.std.specs.List.{AllZip, Contains}
 use Rattle.std.specs.Option.{is_some}
 use Rattle.std.proofs.lemmas.List.{length-map, length-take}
-use Rattle.std.proofs.lemmas.List.Elements.{All-contains, All-filter, All-nil, All-cons, All-head, All-tail, All-weaker}
+use Rattle.std.proofs.lemmas.List.Elements.{All-contains, All-nil, All-cons, All-head, All-tail, All-weaker}
 use Rattle.std.proofs.lemmas.List.Filters.{length-filter_both}
 use Rattle.std.proofs.lemmas.List.Kept.{AllPairs-cons, AllPairs-filter}
 use Rattle.std.proofs.lemmas.Option.{none-some, same_Some, slice_get-get_or}
@@ -27,10 +27,10 @@ use Rattle.script_text.specs.Commands.{commands}
 use Rattle.script_text.specs.Laws.{IsScriptOf}
 use Rattle.script_text.specs.Script.{ScriptValue}
 use Rattle.live_engine.specs.FirstForms.{StartsAsWanted}
-use Rattle.live_engine.specs.LivePlan.{AreLiveSites, IsLivePlan, IsLiveSite, IsPlanOf, IsWanted, chunks_made, is_patched}
+use Rattle.live_engine.specs.LivePlan.{AreLiveSites, IsLiveSite, IsPlanOf, IsWanted, chunks_made, is_patched}
 use Rattle.live_engine.proofs.FormsAfter.{pairs-head, pairs-tail}
-use Rattle.live_engine.proofs.MadeChunks.{AreMade, WantsNew, chunks-made, commands-counted, commands-known}
-use Rattle.live_engine.proofs.StandingChunks.{Follow, follow-at}
+use Rattle.live_engine.proofs.MadeChunks.{AreMade, chunks-made, commands-counted, commands-known}
+use Rattle.live_engine.proofs.StandingChunks.{follow-at}
 use Rattle.live_engine.proofs.Updates.{Track, one-number}
 
 -- ---- lists in step

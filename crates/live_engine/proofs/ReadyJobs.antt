@@ -1,5 +1,5 @@
 -- The jobs of the first seats, one seat more.
-use Rattle.std.proofs.Common.{◌≡◌, ◌∙◌, ◌+◌, ◌≤◌, ◌<◌, ℕ, false, List, [], ◌∷◌, ◌++◌, length, drop, get_or, map, take, All, Some, refl, sym, ap, subst, arith, vec_capacity, inl, inr}
+use Rattle.std.proofs.Common.{◌≡◌, ◌∙◌, ◌+◌, ◌≤◌, ◌<◌, ℕ, List, [], ◌∷◌, ◌++◌, length, drop, get_or, map, take, All, Some, sym, ap, subst, vec_capacity, inl, inr}
 use Rattle.std.specs.Prelude.{slice_get}
 use Rattle.std.proofs.lemmas.List.{drop_all, drop_more, map_push, take_more}
 use Rattle.std.proofs.lemmas.List.Elements.{All-push}

@@ -1,5 +1,5 @@
 -- What a turn makes of a walk so far.
-use Rattle.std.proofs.Common.{◌≡◌, ◌+◌, ◌*◌, ◌<◌, ◌≤◌, ◌^◌, ◌∙◌, ◌⊎◌, ℕ, Bool, true, false, if◌then◌else◌, List, [], ◌∷◌, ◌++◌, length, get_or, All, Option, inl, inr, refl, ap, sym, subst, arith, length-append, vec_capacity}
+use Rattle.std.proofs.Common.{◌≡◌, ◌+◌, ◌<◌, ◌≤◌, ◌^◌, ◌∙◌, ◌⊎◌, ℕ, Bool, true, false, if◌then◌else◌, List, [], ◌∷◌, ◌++◌, get_or, All, Option, inl, inr, refl, ap, sym, subst, arith, length-append, vec_capacity}
 use Rattle.std.proofs.lemmas.List.Elements.{All-get_or, All-push, All-weaker}
 use Rattle.insn_forms.specs.declared.forms.Form.{Form}
 use Rattle.insn_forms.specs.Spelling.{after}
@@ -8,13 +8,13 @@ use Rattle.live_text.specs.declared.plan.LivePlan.{LivePlan}
 use Rattle.live_text.specs.declared.view.View.{View}
 use Rattle.live_text.specs.Own.{IsOwn, TextState}
 use Rattle.module_image.specs.Layout.{IsStart, text_end}
-use Rattle.module_image.specs.Module.{IsAccepted, Module, layout_of, plain_at}
+use Rattle.module_image.specs.Module.{IsAccepted, Module, layout_of}
 use Rattle.module_image.proofs.Grounds.{module_ground}
 use Rattle.x64_subset.specs.declared.insn.Insn.{Insn}
 use Rattle.x64_subset.specs.declared.proc.Life.TheVariants.{Running}
 use Rattle.x64_subset.specs.declared.proc.Mark.{Mark}
 use Rattle.x64_subset.specs.declared.proc.Proc.{Proc}
-use Rattle.x64_subset.specs.Effect.{at_ip, does}
+use Rattle.x64_subset.specs.Effect.{at_ip}
 use Rattle.x64_subset.specs.Proc.{start}
 use Rattle.x64_subset.specs.Whole.{whole}
 use Rattle.live_engine.specs.declared.cpu.Turn.{Turn}
@@ -22,7 +22,7 @@ use Rattle.live_engine.specs.declared.cpu.Turn.TheVariants.{Ran, Pass, Trapped, 
 use Rattle.live_engine.specs.declared.job.Job.{Job}
 use Rattle.live_engine.specs.LiveCpu.{CpuState, IsPaired, NewCpusArePaired, Runner, new_cpu, next_at, runner}
 use Rattle.live_engine.specs.LiveRun.{IsReady}
-use Rattle.live_engine.specs.Turns.{Does, DoesWhole, FetchesTrap, Rests, RunsPlain, Turns}
+use Rattle.live_engine.specs.Turns.{DoesWhole, FetchesTrap, Rests, RunsPlain, Turns}
 use Rattle.live_engine.specs.Versions.{floor}
 use Rattle.live_engine.specs.Walks.{DoesPlain, DoesSite, IsInOrder, IsWalk, Says, after_plain, after_turn, after_turns}
 use Rattle.live_engine.proofs.Alike.{whole-alike}

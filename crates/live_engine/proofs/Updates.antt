@@ -7,14 +7,13 @@ use Rattle.std.proofs.lemmas.List.Elements.{All-cons, All-nil}
 use Rattle.std.proofs.lemmas.Option.{none-some, same_Some, slice_get_within}
 use Rattle.insn_forms.specs.declared.forms.Change.{Change}
 use Rattle.insn_forms.specs.declared.forms.Form.{Form}
-use Rattle.insn_forms.specs.Spelling.{size}
 use Rattle.insn_forms.proofs.Spellings.{size_pos}
 use Rattle.key_state.specs.declared.count.CountRefused.{CountRefused}
 use Rattle.key_state.specs.After.{after}
 use Rattle.key_state.specs.Changes.{AreStatesOf, change_at, changes, first_foreign, is_foreign}
 use Rattle.key_state.specs.Outcome.{kept_at, made_at, made_by, made_to, settled, settled_to}
 use Rattle.key_state.proofs.Clashing.{foreign_missed}
-use Rattle.key_state.proofs.Differing.{IsChangeOf, Told, all_from, changes_from, few_changes, form_of, pairs_from, told, wants_form}
+use Rattle.key_state.proofs.Differing.{IsChangeOf, Told, all_from, few_changes, form_of, pairs_from, told, wants_form}
 use Rattle.key_state.proofs.Keeping.{commands_keep}
 use Rattle.key_state.proofs.Poking.{ascend, patchable}
 use Rattle.live_text.specs.declared.plan.LiveSite.{LiveSite}
@@ -23,7 +22,7 @@ use Rattle.module_image.specs.declared.command.Command.{Command}
 use Rattle.module_image.specs.declared.site.Site.{Site}
 use Rattle.module_image.specs.Command.{IsCommandOf}
 use Rattle.module_image.specs.Layout.{site_at}
-use Rattle.module_image.specs.Lent.{IsLaidOut, IsPatchedSite}
+use Rattle.module_image.specs.Lent.{IsLaidOut}
 use Rattle.module_image.specs.Module.{IsAccepted, Module, States, wants}
 use Rattle.module_image.proofs.Lent.{sites_laid_out}
 use Rattle.poke_batch.specs.Poke.{chunks}

@@ -1,14 +1,9 @@
 -- Which form a site has after some chunks of a plan, and which of these versions a processor may do.
-use Rattle.std.specs.Prelude.{◌≡◌, ◌⊎◌, ◌<◌, ◌==◌, ◌||◌, ℕ, zero, suc, ◌+◌, ◌*◌, ◌/◌, ◌%◌, Bool, true, false, not, nat_lt, if◌then◌else◌, List, [], length, take, position, slice_index_or, Option, Some, None, is_some}
-use Rattle.insn_forms.specs.declared.forms.Form.{Form}
-use Rattle.insn_forms.specs.declared.forms.Change.{Change}
+use Rattle.std.specs.Prelude.{◌≡◌, ◌⊎◌, ◌<◌, ◌==◌, ◌||◌, ℕ, zero, suc, ◌+◌, ◌/◌, ◌%◌, Bool, true, false, not, nat_lt, if◌then◌else◌, length, Option, Some, None, is_some}
 use Rattle.live_text.specs.declared.plan.LivePlan.{LivePlan}
-use Rattle.live_text.specs.declared.view.Shape.{Shape}
 use Rattle.live_text.specs.declared.view.View.{View}
 use Rattle.live_text.specs.Own.{site_of}
 use Rattle.live_text.specs.Versions.{place_in, breakpoint_write}
-use Rattle.live_text.specs.Past.{cut}
-use Rattle.live_text.specs.Plan.{chunks_of, form_after}
 
 -- a site of the plan, by its number, begins at an address
 pub record IsSiteAt (plan : LivePlan) (site at : ℕ) : Type 0 where

@@ -39,10 +39,10 @@ pub struct LiveRun {
 
 /// All that a run needs, in memory that was taken before it.
 #[derive(Drop)]
-struct Crew {
-    text: LiveText,
-    patcher: Patcher,
-    jobs: Vec<Job>,
+pub(crate) struct Crew {
+    pub(crate) text: LiveText,
+    pub(crate) patcher: Patcher,
+    pub(crate) jobs: Vec<Job>,
     /// The most turns that the patch worker needs alone.
     most: u64,
     /// What the sites hold in the end.
@@ -83,7 +83,7 @@ impl Crew {
     ///
     /// # Errors
     /// Out of memory.
-    fn of(
+    pub(crate) fn of(
         alloc: Global,
         image: &Image,
         script: &Script,

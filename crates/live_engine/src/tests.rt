@@ -2,13 +2,16 @@
 ghost use Rattle.std.specs.Prelude.{IfOk};
 ghost use Rattle.script_text.specs.Laws.{IsScriptOf};
 
+mod turns;
+
 use crate::{Gate, LiveRun, OpenGate, Turn, live_plan, run_live};
-use elf_build::{KeyStart, Name, Plan, PlanFunction, PlanKey, PlanSite, write};
+use elf_build::{KeyStart, PlanSite};
 use elf_module::ElfFile;
 use insn_forms::{Change, Form};
 use live_text::LiveSite;
 use module_image::Image;
 use script_text::Script;
+use small_module::{BRANCH, F, SPIN, Small};
 use std::alloc::Global;
 use std::process::Abort;
 use std::sync::atomic::{AtomicU64, Ordering};
@@ -16,51 +19,11 @@ use std::test::Fail;
 use std::thread::Threads;
 use x64_subset::Mark;
 
-/// Where the text of each module stands.
-const F: u64 = 0x40_1000;
-
-/// A text with its sites, keys and functions.
-struct Small<'a> {
-    text: &'a [u8],
-    sites: &'a [PlanSite],
-    keys: &'a [(&'a [u8], KeyStart)],
-    functions: &'a [(&'a [u8], u64)],
-}
-
-/// A switch of five bytes at the text's beginning that leads to what is after it.
-const SWITCH: PlanSite = PlanSite::Jump {
-    at: F,
-    target: F + 5,
-    key: 0,
-    likely: false,
-};
-
 /// A key that is off.
 const KEY: (&[u8], KeyStart) = (b"k", KeyStart::Count(0));
 
 /// The function at the text's beginning.
 const START: (&[u8], u64) = (b"f", F);
-
-/// A switch, and a jump back to it.
-const SPIN: Small<'static> = Small {
-    text: b"\x0f\x1fD\0\0\xeb\xf9",
-    sites: &[SWITCH],
-    keys: &[KEY],
-    functions: &[START],
-};
-
-/// A switch between two loads, and functions that end at once.
-const BRANCH: Small<'static> = Small {
-    text: b"\x0f\x1fD\0\0\xb8\x01\0\0\0\xe6\x10\xc3\xcc\xb8\x02\0\0\0\xe6\x10\xc3",
-    sites: &[PlanSite::Jump {
-        at: F,
-        target: F + 14,
-        key: 0,
-        likely: false,
-    }],
-    keys: &[KEY],
-    functions: &[START, (b"leaf", F + 12), (b"brk", F + 13)],
-};
 
 /// Two switches of different keys, one after the other, and a jump back.
 const PAIR: Small<'static> = Small {
@@ -83,44 +46,9 @@ const PAIR: Small<'static> = Small {
     functions: &[START],
 };
 
-/// A name of these bytes.
-fn name(bytes: &[u8]) -> Name {
-    let mut name = Name::new();
-    let _ = name.try_extend_from_slice(bytes);
-    name
-}
-
-/// The file of a module.
-fn file(alloc: Global, small: &Small<'_>) -> Result<Vec<u8>, Fail> {
-    let mut plan = Plan {
-        base: F,
-        text: Vec::from_slice(alloc, small.text)?,
-        sites: Vec::from_slice(alloc, small.sites)?,
-        keys: Vec::new(alloc),
-        functions: Vec::new(alloc),
-    };
-    for (bytes, start) in small.keys {
-        plan.keys.push(PlanKey {
-            name: name(bytes),
-            start: *start,
-        })?;
-    }
-    for (bytes, at) in small.functions {
-        plan.functions.push(PlanFunction {
-            name: name(bytes),
-            at: *at,
-        })?;
-    }
-    let mut out = Vec::new(alloc);
-    if plan.fits() {
-        write(&plan, &mut out)?;
-    }
-    Ok(out)
-}
-
 /// The module.
 fn image(rt: &impl Abort, alloc: Global, small: &Small<'_>) -> Result<Image, Fail> {
-    let file = file(alloc, small)?;
+    let file = small.file(alloc)?;
     assert!(rt; file.len() < 10_000);
     Ok(Image::accept(alloc, &ElfFile::read(&file)?)?)
 }

@@ -1,8 +1,6 @@
--- The items of a list from a place on, and prints that failed.
-use Rattle.std.proofs.Common.{◌≡◌, ◌+◌, ◌<◌, ◌≤◌, ℕ, zero, suc, List, [], ◌∷◌, length, drop, Result, IsErr, Ok, Err, Some, ap, ◌∙◌, refl, arith}
+-- The items of a list from a place on.
+use Rattle.std.proofs.Common.{◌≡◌, ◌+◌, ◌<◌, ◌≤◌, ℕ, zero, suc, List, [], ◌∷◌, length, drop, Some, ap, ◌∙◌, refl, arith}
 use Rattle.std.specs.List.{slice_get}
-use Rattle.poke_base.specs.declared.host.WriteFail.{WriteFail}
-use Rattle.poke_base.specs.Host.{Outside, Prints}
 
 none_there : {X : Type 0} (i : ℕ) (x : X) → slice_get {X = X} [] i ≡ Some x → ⊥
 none_there zero x there = cc
@@ -27,8 +25,3 @@ drop_all {X = X} [] zero past = refl
 drop_all {X = X} [] (suc i) past = refl
 drop_all {X = X} (y ∷ ys) zero past = absurd (omega (arith, past))
 drop_all {X = X} (y ∷ ys) (suc i) past = drop_all ys i (omega (arith, past))
-
--- a failed print is the same whatever its error, which has one value
-pub as_failed : (old new : Outside) (text : List ℕ) (why : WriteFail) (result : Result (Unit {0}) WriteFail) → IsErr result → Prints {T = Unit {0}} {E = WriteFail} old new text (Err why) → Prints {T = Unit {0}} {E = WriteFail} old new text result
-as_failed old new text why (Ok done) failed prints = absurd (cc)
-as_failed old new text why (Err fail) failed prints = prints

@@ -3,4 +3,5 @@ pub mod WordLemmas
 pub mod Files
 pub mod Listed
 pub mod Outsides
+pub mod ItemLines
 pub mod KnownBytes

@@ -1,10 +1,9 @@
 //! `check`: what is printed of modules that are accepted.
 
 use crate::frame::{Failing, accepts, accepts_file, host_after, run_failing_calls};
-use crate::modules::{
-    F, Place, RETURN, SWITCH, Small, TWO_SWITCHES, call, file, file_of, jump, ten_blocks, text_at,
-};
+use crate::modules::{Place, RETURN, SWITCH, TWO_SWITCHES, call, jump, ten_blocks, text_at};
 use elf_build::{KeyStart, generated};
+use small_module::{F, Small, file_of};
 use std::test::Fail;
 
 /// What is printed of the module with two switches.
@@ -64,7 +63,7 @@ fn failing_calls_leave_a_prefix(rt: HostRuntime) -> Result<(), Fail> {
         ),
         (6, 0, TWO_SWITCHES_TEXT, b""),
     ];
-    let module = file(rt.alloc(), &TWO_SWITCHES)?;
+    let module = TWO_SWITCHES.file(rt.alloc())?;
     run_failing_calls(&rt, &["check", "m"], ("m", &module), &rows)
 }
 

@@ -2,7 +2,7 @@
 ghost use Rattle.std.specs.Prelude.{◌≡◌};
 
 use crate::frame::words;
-use crate::modules::{TWO_SWITCHES, file};
+use crate::modules::TWO_SWITCHES;
 use live_engine::OpenGate;
 use poke_base::{AskedBy, Host, MemoryHost, NoMemory, ReadFail, WriteFail};
 use poke_tool::textpoke;
@@ -111,7 +111,7 @@ fn after_wants<R: AllocGlobal + Threads + Sync>(rt: &R, module: &[u8]) -> Result
 
 #[test]
 fn the_script_is_asked_after_its_module(rt: HostRuntime) -> Result<(), Fail> {
-    let host = after_wants(&rt, &file(rt.alloc(), &TWO_SWITCHES)?)?;
+    let host = after_wants(&rt, &TWO_SWITCHES.file(rt.alloc())?)?;
     let asked = host.asked();
     assert_eq!(rt; asked.len(), 2);
     assert_eq!(rt; asked[0].0.as_bytes(), b"m".as_slice());

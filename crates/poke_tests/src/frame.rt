@@ -1,9 +1,10 @@
 //! What runs the rows of a table: a command over a host in memory, and what has to come of it.
 
-use crate::modules::{Place, Small, change, file};
+use crate::modules::{Place, change};
 use live_engine::OpenGate;
 use poke_base::MemoryHost;
 use poke_tool::textpoke;
+use small_module::Small;
 use std::alloc::Global;
 use std::process::Abort;
 use std::test::Fail;
@@ -143,7 +144,7 @@ pub fn accepts<R: Abort + AllocGlobal + Threads + Sync>(
     edits: &[(Place, u8)],
     printed: &[u8],
 ) -> Result<(), Fail> {
-    let mut bytes = file(rt.alloc(), small)?;
+    let mut bytes = small.file(rt.alloc())?;
     change(&mut bytes, edits);
     accepts_file(rt, name, &bytes, printed)
 }
@@ -156,7 +157,7 @@ pub fn refuses<R: Abort + AllocGlobal + Threads + Sync>(
     edits: &[(Place, u8)],
     why: &[u8],
 ) -> Result<(), Fail> {
-    let mut bytes = file(rt.alloc(), small)?;
+    let mut bytes = small.file(rt.alloc())?;
     change(&mut bytes, edits);
     refuses_file(rt, name, &bytes, why)
 }

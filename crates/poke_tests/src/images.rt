@@ -1,9 +1,10 @@
 //! What an accepted module says of addresses and names.
 
-use crate::modules::{F, Place, Small, call, change, file, jump};
+use crate::modules::{Place, call, change, jump};
 use elf_build::{KeyStart, PlanSite};
 use elf_module::ElfFile;
 use module_image::{Image, Key, KeyClass};
+use small_module::{F, Small};
 use std::alloc::Global;
 use std::test::Fail;
 use x64_subset::Insn;
@@ -33,7 +34,7 @@ fn module(alloc: Global) -> Result<Vec<u8>, Fail> {
             (b"f", F + 22),
         ],
     };
-    let mut bytes = file(alloc, &small)?;
+    let mut bytes = small.file(alloc)?;
     // The value of the last symbol, `also_k`, becomes the address of `k`.
     change(&mut bytes, &[(Place::File(0x170), 0)]);
     Ok(bytes)

@@ -1,9 +1,10 @@
 //! `make`: the file that is made.
 
 use crate::frame::{run, run_over};
-use crate::modules::{file_of, ten_blocks};
+use crate::modules::ten_blocks;
 use elf_build::generated;
 use poke_base::MemoryHost;
+use small_module::file_of;
 use std::test::Fail;
 
 #[test]

@@ -1,21 +1,9 @@
 //! Small modules, written of plans whose text stands at 401000.
 
-use elf_build::{KeyStart, Name, Plan, PlanFunction, PlanKey, PlanSite, generated, write};
-use poke_base::{Line, put_dec, put_text};
+use elf_build::{KeyStart, Name, Plan, PlanFunction, PlanSite, generated};
+use poke_base::{Line, NoMemory, put_dec, put_text};
+use small_module::{F, Small, file_of, name};
 use std::alloc::Global;
-use std::test::Fail;
-
-/// The text, the sites, the keys and the functions of a module.
-#[derive(Clone, Copy)]
-pub struct Small<'a> {
-    pub text: &'a [u8],
-    pub sites: &'a [PlanSite],
-    pub keys: &'a [(&'a [u8], KeyStart)],
-    pub functions: &'a [(&'a [u8], u64)],
-}
-
-/// Where the text of each module stands.
-pub const F: u64 = 0x40_1000;
 
 /// No function.
 pub const NO_FUNCTION: KeyStart = KeyStart::Func(0);
@@ -90,19 +78,6 @@ pub const TWO_SWITCHES: Small<'static> = Small {
     functions: &[(b"f", F)],
 };
 
-/// A switch between two loads, each with an output and a return after it.
-pub const BRANCH: Small<'static> = Small {
-    text: b"\x0f\x1fD\0\0\xb8\x01\0\0\0\xe6\x10\xc3\xcc\xb8\x02\0\0\0\xe6\x10\xc3",
-    sites: &[PlanSite::Jump {
-        at: F,
-        target: F + 14,
-        key: 0,
-        likely: false,
-    }],
-    keys: &[(b"k", KeyStart::Count(0))],
-    functions: &[(b"f", F), (b"leaf", F + 12), (b"brk", F + 13)],
-};
-
 /// A switch that isn't likely.
 pub fn jump(at: u64, target: u64, key: u32) -> PlanSite {
     PlanSite::Jump {
@@ -131,54 +106,8 @@ pub fn tail(at: u64, key: u32) -> PlanSite {
     }
 }
 
-/// A name of these bytes.
-pub fn name(bytes: &[u8]) -> Name {
-    let mut name = Name::new();
-    let _ = name.try_extend_from_slice(bytes);
-    name
-}
-
-/// The plan of a module.
-pub fn plan(alloc: Global, small: &Small<'_>) -> Result<Plan, Fail> {
-    let mut keys = Vec::new(alloc);
-    for (bytes, start) in small.keys {
-        keys.push(PlanKey {
-            name: name(bytes),
-            start: *start,
-        })?;
-    }
-    let mut functions = Vec::new(alloc);
-    for (bytes, at) in small.functions {
-        functions.push(PlanFunction {
-            name: name(bytes),
-            at: *at,
-        })?;
-    }
-    Ok(Plan {
-        base: F,
-        text: Vec::from_slice(alloc, small.text)?,
-        sites: Vec::from_slice(alloc, small.sites)?,
-        keys,
-        functions,
-    })
-}
-
-/// The file of a plan; empty where it doesn't fit.
-pub fn file_of(alloc: Global, plan: &Plan) -> Result<Vec<u8>, Fail> {
-    let mut out = Vec::new(alloc);
-    if plan.fits() {
-        write(plan, &mut out)?;
-    }
-    Ok(out)
-}
-
-/// The file of a module.
-pub fn file(alloc: Global, small: &Small<'_>) -> Result<Vec<u8>, Fail> {
-    file_of(alloc, &plan(alloc, small)?)
-}
-
 /// The file of the module that `make` makes with ten blocks.
-pub fn ten_blocks(alloc: Global) -> Result<Vec<u8>, Fail> {
+pub fn ten_blocks(alloc: Global) -> Result<Vec<u8>, NoMemory> {
     file_of(alloc, &generated(alloc, 10)?)
 }
 
@@ -233,8 +162,8 @@ fn numbered(number: u32) -> Name {
 
 /// 300 functions of a NOP that is traced and a return, after the function that they call when they
 /// are; a halt at the end.
-pub fn traced(alloc: Global) -> Result<Plan, Fail> {
-    let mut plan = plan(alloc, &TRACER)?;
+pub fn traced(alloc: Global) -> Result<Plan, NoMemory> {
+    let mut plan = TRACER.plan(alloc)?;
     let mut at = F + 1;
     for number in 0..300 {
         plan.text.extend_from_slice(b"\x0f\x1fD\0\0\xc3")?;
@@ -254,8 +183,8 @@ pub fn traced(alloc: Global) -> Result<Plan, Fail> {
 }
 
 /// 1,024 traced NOPs, and the function that is called where they are traced.
-pub fn full(alloc: Global) -> Result<Plan, Fail> {
-    let mut plan = plan(alloc, &TRACER)?;
+pub fn full(alloc: Global) -> Result<Plan, NoMemory> {
+    let mut plan = TRACER.plan(alloc)?;
     let mut at = F + 1;
     for _ in 0..1_024 {
         plan.text.extend_from_slice(b"\x0f\x1fD\0\0")?;

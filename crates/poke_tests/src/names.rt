@@ -1,8 +1,9 @@
 //! `check` of a module whose functions' names are suffixes of one long name: the names that are read have a budget.
 
 use crate::frame::{accepts_file, run};
-use crate::modules::{RETURN, file_of, name, plan};
+use crate::modules::RETURN;
 use elf_build::PlanFunction;
+use small_module::{file_of, name};
 use std::alloc::Global;
 use std::test::Fail;
 
@@ -11,7 +12,7 @@ const LETTER: u8 = b'a';
 
 /// The file of a return that 2,000 functions name, each by 64 letters.
 fn many_functions(alloc: Global) -> Result<Vec<u8>, Fail> {
-    let mut plan = plan(alloc, &RETURN)?;
+    let mut plan = RETURN.plan(alloc)?;
     let at = plan.base;
     for _ in 0..2_000 {
         plan.functions.push(PlanFunction {
@@ -19,7 +20,7 @@ fn many_functions(alloc: Global) -> Result<Vec<u8>, Fail> {
             at,
         })?;
     }
-    file_of(alloc, &plan)
+    Ok(file_of(alloc, &plan)?)
 }
 
 /// Joins names: the zero between two letters becomes a letter.

@@ -1,10 +1,9 @@
 //! Modules that could be refused for more than one reason: the first in the order is reported.
 
 use crate::frame::{refuses, refuses_file};
-use crate::modules::{
-    F, NO_FUNCTION, Place, RETURN, SWITCH, Small, call, change, file, file_of, full, jump, tail,
-};
+use crate::modules::{NO_FUNCTION, Place, RETURN, SWITCH, call, change, full, jump, tail};
 use elf_build::{KeyStart, PlanSite};
+use small_module::{F, Small, file_of};
 use std::alloc::Global;
 use std::process::Abort;
 use std::test::Fail;
@@ -227,7 +226,7 @@ fn leading(alloc: Global, leads: Leads) -> Result<Vec<u8>, Fail> {
         ],
         functions: &[(b"f", F), (b"g", leads.function), (b"h", F + 2)],
     };
-    file(alloc, &small)
+    Ok(small.file(alloc)?)
 }
 
 #[test]

@@ -1,7 +1,7 @@
 //! Words that are no command: nothing is read, made or printed.
 
 use crate::frame::run;
-use crate::modules::{TWO_SWITCHES, file};
+use crate::modules::TWO_SWITCHES;
 use crate::plans::NOP_TO_JMP;
 use std::test::Fail;
 
@@ -27,7 +27,7 @@ fn other_words_are_refused(rt: HostRuntime) -> Result<(), Fail> {
         ("no script", &["wants", "m"]),
         ("two scripts", &["wants", "m", "p", "p"]),
     ];
-    let module = file(rt.alloc(), &TWO_SWITCHES)?;
+    let module = TWO_SWITCHES.file(rt.alloc())?;
     let files: [(&str, &[u8]); 2] = [("p", NOP_TO_JMP), ("m", &module)];
     for (name, words) in rows {
         let reported = b"textpoke: bad words\n";

@@ -2,11 +2,11 @@
 
 use crate::frame::{host_after, refuses, refuses_file};
 use crate::modules::{
-    CALL, F, NO_FUNCTION, Place, RETURN, SWITCH, Small, TRACE, call, change, file_of, full, jump,
-    tail, text_at,
+    CALL, NO_FUNCTION, Place, RETURN, SWITCH, TRACE, call, change, full, jump, tail, text_at,
 };
 use crate::texts::refuses_sites;
 use elf_build::{KeyStart, PlanSite};
+use small_module::{F, Small, file_of};
 use std::test::Fail;
 
 #[test]

@@ -1,7 +1,7 @@
 //! `show`: what is printed of a module's tables, and why other files are refused.
 
 use crate::frame::{Failing, run, run_failing_calls};
-use crate::modules::{Place, TWO_SWITCHES, change, file};
+use crate::modules::{Place, TWO_SWITCHES, change};
 use std::alloc::Global;
 use std::test::Fail;
 
@@ -11,7 +11,7 @@ const JUMPS: &[u8] = b"jump 401000 401009 451000 unlikely\njump 401002 401009 45
 /// The file of the module with two switches, some bytes of which were changed. It has 896 bytes: the
 /// header, the contents, and nine section headers from 140 (hexadecimal) on.
 fn changed(alloc: Global, edits: &[(usize, u8)]) -> Result<Vec<u8>, Fail> {
-    let mut file = file(alloc, &TWO_SWITCHES)?;
+    let mut file = TWO_SWITCHES.file(alloc)?;
     for &(at, byte) in edits {
         change(&mut file, &[(Place::File(at), byte)]);
     }

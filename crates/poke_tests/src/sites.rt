@@ -1,8 +1,9 @@
 //! What `check` prints of sites: those that are written to what their keys want, and foreign ones.
 
 use crate::frame::accepts;
-use crate::modules::{F, NO_FUNCTION, RETURN, Small, call, jump, tail};
+use crate::modules::{NO_FUNCTION, RETURN, call, jump, tail};
 use elf_build::{KeyStart, PlanSite};
+use small_module::{F, Small};
 use std::process::Abort;
 use std::test::Fail;
 use std::thread::Threads;

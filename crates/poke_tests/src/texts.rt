@@ -1,8 +1,9 @@
 //! Modules that `check` refuses for what their texts say and where they lead.
 
 use crate::frame::refuses;
-use crate::modules::{F, NO_FUNCTION, Place, RETURN, Small, TRACE, call, jump, tail};
+use crate::modules::{NO_FUNCTION, Place, RETURN, TRACE, call, jump, tail};
 use elf_build::{KeyStart, PlanSite};
+use small_module::{F, Small};
 use std::process::Abort;
 use std::test::Fail;
 use std::thread::Threads;

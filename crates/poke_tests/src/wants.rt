@@ -1,9 +1,10 @@
 //! `wants`: how the updates of a script end, and what the sites then hold.
 
 use crate::frame::{Row, run, run_failing, run_over};
-use crate::modules::{F, Small, TWO_SWITCHES, file, jump};
+use crate::modules::{TWO_SWITCHES, jump};
 use elf_build::{KeyStart, PlanSite};
 use poke_base::MemoryHost;
+use small_module::{F, Small};
 use std::process::Abort;
 use std::test::Fail;
 use std::thread::Threads;
@@ -104,7 +105,7 @@ fn updates_end(rt: HostRuntime) -> Result<(), Fail> {
         ),
     ];
     for (name, small, script, printed) in rows {
-        let module = file(rt.alloc(), &small)?;
+        let module = small.file(rt.alloc())?;
         wants(&rt, name, &module, script, (0, printed, b""))?;
     }
     Ok(())
@@ -112,7 +113,7 @@ fn updates_end(rt: HostRuntime) -> Result<(), Fail> {
 
 #[test]
 fn scripts_are_refused(rt: HostRuntime) -> Result<(), Fail> {
-    let module = file(rt.alloc(), &TAIL)?;
+    let module = TAIL.file(rt.alloc())?;
     let rows: [(&str, &[u8], &[u8]); 2] = [
         ("no line", b"", b"textpoke: script: line 1: NoCpu\n"),
         (
@@ -130,7 +131,7 @@ fn scripts_are_refused(rt: HostRuntime) -> Result<(), Fail> {
 #[test]
 fn long_scripts_are_refused(rt: HostRuntime) -> Result<(), Fail> {
     let alloc = rt.alloc();
-    let module = file(alloc, &TAIL)?;
+    let module = TAIL.file(alloc)?;
     let site: &[u8] = b"site 401008 tail e900000000\n";
     let rows: [(&str, usize, u8, &[u8], &[u8]); 2] = [
         ("65536 bytes", 65_531, 0, site, b""),
@@ -152,7 +153,7 @@ fn long_scripts_are_refused(rt: HostRuntime) -> Result<(), Fail> {
 
 #[test]
 fn missing_files_and_bad_modules(rt: HostRuntime) -> Result<(), Fail> {
-    let module = file(rt.alloc(), &TAIL)?;
+    let module = TAIL.file(rt.alloc())?;
     let read: &[u8] = b"textpoke: read failed\n";
     let rows: [(&str, &[(&str, &[u8])], u8, &[u8]); 3] = [
         ("no module", &[("s", b"inc j")], 5, read),
@@ -175,7 +176,7 @@ fn missing_files_and_bad_modules(rt: HostRuntime) -> Result<(), Fail> {
 
 #[test]
 fn failing_calls_leave_a_prefix(rt: HostRuntime) -> Result<(), Fail> {
-    let module = file(rt.alloc(), &TAIL)?;
+    let module = TAIL.file(rt.alloc())?;
     let files: [(&str, &[u8]); 2] = [("m", &module), ("s", THERE_AND_BACK)];
     let read: &[u8] = b"textpoke: read failed\n";
     let write: &[u8] = b"textpoke: write failed\n";

@@ -1,8 +1,9 @@
 //! Modules that are written of plans: their files, and what `show` prints of them.
 
 use crate::frame::{host_after, run};
-use crate::modules::{BRANCH, F, Small, TWO_SWITCHES, call, file, file_of, jump, tail, traced};
+use crate::modules::{TWO_SWITCHES, call, jump, tail, traced};
 use elf_build::KeyStart;
+use small_module::{BRANCH, F, Small, file_of};
 use std::process::Abort;
 use std::test::Fail;
 use std::thread::Threads;
@@ -15,7 +16,7 @@ fn is_written<R: Abort + AllocGlobal + Threads + Sync>(
     size: usize,
     printed: &[u8],
 ) -> Result<(), Fail> {
-    let bytes = file(rt.alloc(), small)?;
+    let bytes = small.file(rt.alloc())?;
     assert_eq!(rt; bytes.len(), size, "{name}");
     run(
         rt,

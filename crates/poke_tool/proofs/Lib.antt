@@ -7,7 +7,6 @@ pub mod Endings
 pub mod PlanLines
 pub mod Plans
 pub mod TableLines
-pub mod ItemLines
 pub mod OutcomeLines
 pub mod ScriptUpdates
 pub mod SomeTally

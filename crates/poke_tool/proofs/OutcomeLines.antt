@@ -9,7 +9,7 @@ use Rattle.key_state.specs.declared.outcome.Outcome.{Outcome}
 use Rattle.key_state.specs.Outcome.{Ending, ending_of}
 use Rattle.key_state.specs.OutcomeLine.{outcome_line}
 use Rattle.poke_tool.specs.Wants.{outcome_lines}
-use Rattle.poke_tool.proofs.ItemLines.{take_more}
+use Rattle.poke_base.proofs.ItemLines.{take_more}
 
 -- the lines of some outcomes and then of more
 lines_on : (update : ℕ) (first more : List Ending) → outcome_lines update (first ++ more) ≡ outcome_lines update first ++ outcome_lines (update + length first) more

@@ -222,8 +222,3 @@ request_next old new due waits same =
     let rest : to_print new ≡ drop 1 (to_come old) = ap (λ (d : Due). after_wait d (to_come new)) waits ∙ ap (λ (items : List Item). drop 1 items) same in
     after_wait-other (due_of old) (to_come old) no_wait ∙ request_first old due
     ∙ ap (λ (items : List Item). Syncs ∷ items) (sym rest)
-
--- a failed print is the same whatever its error, which has one value
-pub as_failed : (old new : Outside) (text : List ℕ) (why : WriteFail) (result : Result (Unit {0}) WriteFail) → IsErr result → Prints {T = Unit {0}} {E = WriteFail} old new text (Err why) → Prints {T = Unit {0}} {E = WriteFail} old new text result
-as_failed old new text why (Ok done) failed prints = absurd (cc)
-as_failed old new text why (Err fail) failed prints = prints

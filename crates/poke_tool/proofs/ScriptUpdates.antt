@@ -17,7 +17,7 @@ use Rattle.script_text.specs.Commands.{command_of, commands}
 use Rattle.script_text.specs.Script.{ScriptValue, all_updates, update_count}
 use Rattle.module_image.specs.SiteLine.{site_lines}
 use Rattle.poke_tool.specs.Wants.{IsWantsText, last_states, outcome_lines, script_outcomes}
-use Rattle.poke_tool.proofs.ItemLines.{take_more}
+use Rattle.poke_base.proofs.ItemLines.{take_more}
 
 -- the commands of the first steps, and of one more
 commands_more : (steps : List ScriptStep) (i : ℕ) (step : ScriptStep) → slice_get steps i ≡ Some step → commands (take (i + 1) steps) ≡ commands (take i steps) ++ command_of step

@@ -2,7 +2,6 @@ pub mod Puts
 pub mod Matching
 pub mod Feeding
 pub mod Tallies
-pub mod ItemLines
 pub mod TracerLines
 pub mod SiteLines
 pub mod EndTexts

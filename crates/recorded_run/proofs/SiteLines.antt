@@ -9,7 +9,7 @@ use Rattle.module_image.specs.SiteLine.{line_of, site_lines}
 use Rattle.poke_base.specs.declared.host.WriteFail.{WriteFail}
 use Rattle.poke_base.specs.Host.{Outside, Prints}
 use Rattle.script_runner.specs.TraceText.{line_of_found, numbered_line}
-use Rattle.recorded_run.proofs.ItemLines.{item_failed, item_printed}
+use Rattle.poke_base.proofs.ItemLines.{item_failed, item_printed}
 
 -- what stands where a list has no site
 blank : Site

@@ -7,7 +7,7 @@ use Rattle.poke_base.specs.Host.{Outside, Prints}
 use Rattle.poke_base.proofs.Outsides.{Prints-more, Prints-part}
 use Rattle.tracer_ops.specs.Meaning.{IsTotal, Meaning}
 use Rattle.recorded_run.specs.Tally.{AreTotals, tracer_line, tracer_lines}
-use Rattle.recorded_run.proofs.ItemLines.{take_more, whole}
+use Rattle.poke_base.proofs.ItemLines.{take_more, whole}
 use Rattle.recorded_run.proofs.Tallies.{are_some_totals, some_totals, totals-append, totals_length, tracer_lines-append}
 
 -- the lines of the first tracers were printed

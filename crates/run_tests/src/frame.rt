@@ -1,9 +1,9 @@
 //! What runs a command over a host in memory, and what has to come of it.
 
-use crate::modules::{Small, file};
 use live_engine::OpenGate;
 use poke_base::MemoryHost;
 use poke_tool::textpoke;
+use small_module::Small;
 use std::alloc::Global;
 use std::process::Abort;
 use std::test::Fail;
@@ -29,7 +29,7 @@ pub fn host_with<R: Abort + AllocGlobal + Threads + Sync>(
     script: &[u8],
 ) -> Result<MemoryHost, Fail> {
     let mut host = MemoryHost::new(rt.alloc());
-    host.put("m", &file(rt.alloc(), small)?)?;
+    host.put("m", &small.file(rt.alloc())?)?;
     host.put("s", script)?;
     Ok(host)
 }

@@ -1,9 +1,9 @@
 //! `live`: what is printed, and that its workers run beside one another and share their words.
 
 use crate::frame::{Ended, host_with, words};
-use crate::modules::{BRANCH, SPIN, Small};
 use live_engine::{Gate, OpenGate};
 use poke_tool::textpoke;
+use small_module::{BRANCH, SPIN, Small};
 use std::hint::spin_loop;
 use std::process::Abort;
 use std::sync::atomic::{AtomicU64, Ordering};

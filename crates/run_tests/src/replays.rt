@@ -1,7 +1,7 @@
 //! `replay`: the trace of a journal, or its first line that can't be.
 
 use crate::frame::{Ended, ends, host_with};
-use crate::modules::{BRANCH, CALL, LOOP, Small, TAIL};
+use small_module::{BRANCH, CALL, LOOP, Small, TAIL};
 use std::process::Abort;
 use std::test::Fail;
 use std::thread::Threads;

@@ -1,9 +1,10 @@
 //! `run`: what is printed, and the journal that is written.
 
 use crate::frame::{Ended, ends, host_with};
-use crate::modules::{BRANCH, ENDLESS, Small, traced_300};
+use crate::modules::{ENDLESS, traced_300};
 use live_engine::OpenGate;
 use poke_base::MemoryHost;
+use small_module::{BRANCH, Small};
 use std::process::Abort;
 use std::test::Fail;
 use std::thread::Threads;

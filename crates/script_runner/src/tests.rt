@@ -1,134 +1,40 @@
 //! Small modules that run by given events, with values from outside.
 
 use crate::{Acted, World};
-use elf_build::{KeyStart, Name, Plan, PlanFunction, PlanKey, PlanSite, write};
+use elf_build::{KeyStart, PlanSite};
 use elf_module::ElfFile;
 use module_image::Image;
 use poke_base::{CodeBytes, Line};
 use run_journal::Event;
 use script_text::Script;
-use std::alloc::Global;
+use small_module::{BRANCH, CALL, F, LOOP, Small, TAIL};
 use std::process::Abort;
 use std::test::Fail;
-
-/// Where the text of each module stands.
-const F: u64 = 0x40_1000;
-
-/// A text with one site, a key `k` and functions.
-struct Small<'a> {
-    text: &'a [u8],
-    site: PlanSite,
-    key: KeyStart,
-    functions: &'a [(&'a [u8], u64)],
-}
-
-/// A switch between two loads, each with an output and a return after it.
-const BRANCH: Small<'static> = Small {
-    text: b"\x0f\x1fD\0\0\xb8\x01\0\0\0\xe6\x10\xc3\xcc\xb8\x02\0\0\0\xe6\x10\xc3",
-    site: PlanSite::Jump {
-        at: F,
-        target: F + 14,
-        key: 0,
-        likely: false,
-    },
-    key: KeyStart::Count(0),
-    functions: &[(b"f", F)],
-};
-
-/// A loop with a switch in it.
-const LOOP: Small<'static> = Small {
-    text: b"\xb9\x03\0\0\0\x0f\x1fD\0\0\xff\xc9\x75\xf7\xc3\xff\xc0\xeb\xf7",
-    site: PlanSite::Jump {
-        at: F + 5,
-        target: F + 15,
-        key: 0,
-        likely: false,
-    },
-    key: KeyStart::Count(0),
-    functions: &[(b"f", F)],
-};
-
-/// A call of the first of two functions.
-const CALL: Small<'static> = Small {
-    text: b"\xe8\x03\0\0\0\xe6\x10\xc3\xb8\x01\0\0\0\xc3\xb8\x02\0\0\0\xc3",
-    site: PlanSite::Call {
-        at: F,
-        key: 0,
-        tail: false,
-    },
-    key: KeyStart::Func(F + 8),
-    functions: &[(b"f", F), (b"b", F + 14)],
-};
-
-/// A call of a function that ends with a tail call.
-const TAIL: Small<'static> = Small {
-    text: b"\xe8\x03\0\0\0\xe6\x10\xf4\xe9\0\0\0\0\xb8\x01\0\0\0\xc3",
-    site: PlanSite::Call {
-        at: F + 8,
-        key: 0,
-        tail: true,
-    },
-    key: KeyStart::Func(F + 13),
-    functions: &[(b"f", F), (b"a", F + 13)],
-};
 
 /// A load where the file says that there is a switch.
 const FOREIGN: Small<'static> = Small {
     text: b"\xb8\x01\0\0\0\xc3",
-    site: PlanSite::Jump {
+    sites: &[PlanSite::Jump {
         at: F,
         target: F + 5,
         key: 0,
         likely: false,
-    },
-    key: KeyStart::Count(0),
+    }],
+    keys: &[(b"k", KeyStart::Count(0))],
     functions: &[(b"f", F)],
 };
 
 /// A traced function, after the one that is called where it is traced.
 const TRACE: Small<'static> = Small {
     text: b"\xc3\x0f\x1fD\0\0\xc3",
-    site: PlanSite::Trace { at: F + 1 },
-    key: KeyStart::Count(0),
+    sites: &[PlanSite::Trace { at: F + 1 }],
+    keys: &[(b"k", KeyStart::Count(0))],
     functions: &[(b"ftrace_caller", F), (b"f", F + 1)],
 };
 
-/// A name of these bytes.
-fn name(bytes: &[u8]) -> Name {
-    let mut name = Name::new();
-    let _ = name.try_extend_from_slice(bytes);
-    name
-}
-
-/// The file of a module.
-fn file(alloc: Global, small: &Small<'_>) -> Result<Vec<u8>, Fail> {
-    let mut plan = Plan {
-        base: F,
-        text: Vec::from_slice(alloc, small.text)?,
-        sites: Vec::from_slice(alloc, &[small.site])?,
-        keys: Vec::new(alloc),
-        functions: Vec::new(alloc),
-    };
-    plan.keys.push(PlanKey {
-        name: name(b"k"),
-        start: small.key,
-    })?;
-    for (bytes, at) in small.functions {
-        plan.functions.push(PlanFunction {
-            name: name(bytes),
-            at: *at,
-        })?;
-    }
-    let mut out = Vec::new(alloc);
-    if plan.fits() {
-        write(&plan, &mut out)?;
-    }
-    Ok(out)
-}
-
 /// A module and a script before the first event.
 fn world<R: Abort + AllocGlobal>(rt: &R, small: &Small<'_>, text: &[u8]) -> Result<World, Fail> {
-    let file = file(rt.alloc(), small)?;
+    let file = small.file(rt.alloc())?;
     assert!(rt; file.len() < 10_000);
     assert!(rt; text.len() < 100);
     let image = Image::accept(rt.alloc(), &ElfFile::read(&file)?)?;
@@ -267,7 +173,7 @@ fn torn_bytes_may_not_come(rt: HostRuntime) -> Result<(), Fail> {
         &rt,
         &Run {
             small: &CALL,
-            script: b"cpu f\ncall k b\nrun 1",
+            script: b"cpu f\ncall ck b\nrun 1",
             events: b"bwXstwX",
             fetched: b"\xe8\x09\0\0\0",
             shown: b"update 1 begin 1\n",
@@ -283,7 +189,7 @@ fn a_tail_call_becomes_a_return(rt: HostRuntime) -> Result<(), Fail> {
         &rt,
         &Run {
             small: &TAIL,
-            script: b"cpu f\ncall k -\nrun 4",
+            script: b"cpu f\ncall tk -\nrun 4",
             events: b"bwstwwwwstwstrpxpp",
             fetched: b"\xc3",
             shown: b"update 1 begin 1\nupdate 1 done 1\n0 401008 ret\n0 out 10 00\n0 halt\n",

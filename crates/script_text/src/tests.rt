@@ -1,43 +1,18 @@
 //! Scripts for a small module: what no contract says, with values from outside.
 
 use crate::{Script, ScriptError, ScriptStep, ScriptWhy};
-use elf_build::{KeyStart, Name, Plan, PlanFunction, PlanKey, PlanSite, write};
+use elf_build::{KeyStart, PlanSite};
 use elf_module::ElfFile;
 use module_image::{Command, Image};
+use small_module::{F, Small};
 use std::alloc::Global;
 use std::test::Fail;
 
-/// Where the text stands.
-const F: u64 = 0x40_1000;
-
-/// A name of these bytes.
-fn name(bytes: &[u8]) -> Name {
-    let mut name = Name::new();
-    let _ = name.try_extend_from_slice(bytes);
-    name
-}
-
-/// A function of the plan.
-fn function(bytes: &[u8], at: u64) -> PlanFunction {
-    PlanFunction {
-        name: name(bytes),
-        at,
-    }
-}
-
-/// A key of the plan.
-fn key(bytes: &[u8], start: KeyStart) -> PlanKey {
-    PlanKey {
-        name: name(bytes),
-        start,
-    }
-}
-
 /// A module: ENDBR64 and a traced NOP after it, a switch, a load, a call and two returns. Its functions are `f` with the
 /// trace site, `g` without one, the tracer, and two with the names that stand for no function and for all sites.
-fn module(alloc: Global) -> Result<Vec<u8>, Fail> {
-    let text = b"\xf3\x0f\x1e\xfa\x0f\x1fD\0\0f\x90\xb8\x01\0\0\0\xe8\0\0\0\0\xc3\xc3";
-    let sites = [
+const MODULE: Small<'static> = Small {
+    text: b"\xf3\x0f\x1e\xfa\x0f\x1fD\0\0f\x90\xb8\x01\0\0\0\xe8\0\0\0\0\xc3\xc3",
+    sites: &[
         PlanSite::Jump {
             at: F + 9,
             target: F + 11,
@@ -50,29 +25,16 @@ fn module(alloc: Global) -> Result<Vec<u8>, Fail> {
             tail: false,
         },
         PlanSite::Trace { at: F + 4 },
-    ];
-    let mut keys = Vec::new(alloc);
-    keys.push(key(b"k", KeyStart::Count(0)))?;
-    keys.push(key(b"ck", KeyStart::Func(F)))?;
-    let mut functions = Vec::new(alloc);
-    functions.push(function(b"f", F))?;
-    functions.push(function(b"g", F + 9))?;
-    functions.push(function(b"ftrace_caller", F + 22))?;
-    functions.push(function(b"-", F + 21))?;
-    functions.push(function(b"*", F + 22))?;
-    let plan = Plan {
-        base: F,
-        text: Vec::from_slice(alloc, text)?,
-        sites: Vec::from_slice(alloc, &sites)?,
-        keys,
-        functions,
-    };
-    let mut out = Vec::new(alloc);
-    if plan.fits() {
-        write(&plan, &mut out)?;
-    }
-    Ok(out)
-}
+    ],
+    keys: &[(b"k", KeyStart::Count(0)), (b"ck", KeyStart::Func(F))],
+    functions: &[
+        (b"f", F),
+        (b"g", F + 9),
+        (b"ftrace_caller", F + 22),
+        (b"-", F + 21),
+        (b"*", F + 22),
+    ],
+};
 
 /// Some lines, then one line several times, then a last one.
 fn long(
@@ -92,7 +54,7 @@ fn long(
 
 #[test]
 fn a_script_is_read(rt: HostRuntime) -> Result<(), Fail> {
-    let bytes = module(rt.alloc())?;
+    let bytes = MODULE.file(rt.alloc())?;
     assert!(rt; bytes.len() < 10_000);
     let image = Image::accept(rt.alloc(), &ElfFile::read(&bytes)?)?;
 
@@ -125,7 +87,7 @@ fn a_script_is_read(rt: HostRuntime) -> Result<(), Fail> {
 
 #[test]
 fn lines_are_refused(rt: HostRuntime) -> Result<(), Fail> {
-    let bytes = module(rt.alloc())?;
+    let bytes = MODULE.file(rt.alloc())?;
     assert!(rt; bytes.len() < 10_000);
     let image = Image::accept(rt.alloc(), &ElfFile::read(&bytes)?)?;
 
@@ -173,7 +135,7 @@ fn lines_are_refused(rt: HostRuntime) -> Result<(), Fail> {
 
 #[test]
 fn limits_are_kept(rt: HostRuntime) -> Result<(), Fail> {
-    let bytes = module(rt.alloc())?;
+    let bytes = MODULE.file(rt.alloc())?;
     assert!(rt; bytes.len() < 10_000);
     let image = Image::accept(rt.alloc(), &ElfFile::read(&bytes)?)?;
 

@@ -1,7 +1,7 @@
 -- One seat more has its job.
-use Rattle.std.proofs.Common.{◌≡◌, ◌∙◌, ◌+◌, ◌<◌, ◌∷◌, sym, ap, drop, take, length, get_or, arith, rules, vec_len}
+use Rattle.std.proofs.Common.{◌≡◌, ◌∙◌, ◌+◌, ◌<◌, ◌∷◌, sym, ap, drop, take, length, get_or, rules, vec_len}
 use Rattle.std.specs.Vec.Iter.{into_iter_items}
-use Rattle.live_engine.proofs.ReadyJobs.{IsNew, entries-more, next-of, ready-more}
+use Rattle.live_engine.proofs.ReadyJobs.{entries-more, next-of, ready-more}
 use Rattle.live_engine.proofs.job.jobs_of.Goals as goal
 
 pub loop-seat-preserved : goal.loop-seat-preserved

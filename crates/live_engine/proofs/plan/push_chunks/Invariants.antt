@@ -1,5 +1,5 @@
 -- The chunks that are added, with those of the changes that are left, are all.
-use Rattle.std.proofs.Common.{ℕ, length, ◌≡◌, ◌++◌, map}
+use Rattle.std.proofs.Common.{length, ◌≡◌, ◌++◌, map}
 use Rattle.poke_batch.specs.Poke.{chunks}
 use Rattle.live_engine.proofs.plan.push_chunks.Given as goal
 

@@ -1,5 +1,5 @@
 -- What holds of the rest and of the last job holds of all.
-use Rattle.std.proofs.Common.{◌≡◌, ◌∷◌, []}
+use Rattle.std.proofs.Common.{◌≡◌}
 use Rattle.std.proofs.lemmas.List.Elements.{All-push, AllZip-push}
 use Rattle.live_engine.specs.declared.job.Job.{Job}
 use Rattle.live_engine.specs.LiveRun.{IsDone}

@@ -1,5 +1,5 @@
 -- Each call runs one processor fewer.
-use Rattle.std.proofs.Common.{ℕ, ◌+◌, ◌*◌, vec_len}
+use Rattle.std.proofs.Common.{◌+◌, ◌*◌, vec_len}
 use Rattle.live_engine.proofs.worker.«+fn-run_cpus-join+arg2+run_cpus».Given as goal
 
 abbrev pub decreases-run_cpus : goal.decreases-run_cpus

@@ -1,8 +1,7 @@
 -- Each turn adds to the walk what it did.
-use Rattle.std.proofs.Common.{◌≡◌, ◌∙◌, ◌+◌, ℕ, List, ap, arith, refl, subst, sym}
+use Rattle.std.proofs.Common.{◌∙◌, ◌+◌, ℕ, List, arith, subst, sym}
 use Rattle.x64_subset.specs.Proc.{start}
 use Rattle.live_engine.specs.declared.cpu.Turn.{Turn}
-use Rattle.live_engine.specs.declared.job.Job.{Job}
 use Rattle.live_engine.specs.LiveCpu.{runner}
 use Rattle.live_engine.specs.Walks.{IsWalk}
 use Rattle.live_engine.proofs.Treading.{IsUnderWay, added-none, added-one, is-done, sets-out, turned-walk}

@@ -5,7 +5,7 @@ use Rattle.poke_base.specs.declared.host.WriteFail.{WriteFail}
 use Rattle.poke_base.specs.Host.{Prints}
 use Rattle.poke_base.proofs.Outsides.{Prints-more, Prints-prefix}
 use Rattle.live_trace.specs.WalkText.{turn_text, version_line}
-use Rattle.live_trace.proofs.Dropping.{as_failed}
+use Rattle.poke_base.proofs.ItemLines.{as_failed}
 use Rattle.live_trace.proofs.walks.print_turn.Goals as goal
 
 pub returns-in_err-print-in-Pass-clause-prints : goal.returns-in_err-print-in-Pass-clause-prints

@@ -5,7 +5,7 @@ use Rattle.live_engine.specs.declared.cpu.Turn.TheVariants.{Still}
 use Rattle.live_engine.specs.Walks.{SayAll}
 use Rattle.x64_subset.specs.declared.proc.Proc.{Proc}
 use Rattle.x64_subset.specs.Proc.{start}
-use Rattle.live_trace.proofs.Dropping.{as_failed}
+use Rattle.poke_base.proofs.ItemLines.{as_failed}
 use Rattle.live_trace.proofs.WalkLines.{TurnsPrinted, no_turn_printed, turn_failed, turn_printed, turn_says}
 use Rattle.live_trace.proofs.walks.print_walk.Goals as goal
 

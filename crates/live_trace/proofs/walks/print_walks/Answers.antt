@@ -1,6 +1,6 @@
 use Rattle.std.proofs.Common.{Some, ap, sym, slice_index_or, ◌∙◌}
 use Rattle.std.proofs.lemmas.Option.{slice_get-get_or}
-use Rattle.live_trace.proofs.Dropping.{as_failed}
+use Rattle.poke_base.proofs.ItemLines.{as_failed}
 use Rattle.live_trace.proofs.WalkLines.{walk_failed, walk_listed, walk_printed, walk_says}
 use Rattle.live_trace.proofs.walks.print_walks.Goals as goal
 

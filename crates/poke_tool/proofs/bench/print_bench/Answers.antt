@@ -4,7 +4,7 @@ use Rattle.poke_base.specs.declared.host.WriteFail.{WriteFail}
 use Rattle.poke_base.specs.Host.{Prints}
 use Rattle.poke_base.proofs.Outsides.{Prints-more, Prints-prefix}
 use Rattle.poke_tool.specs.BenchText.{bench_line, count_line, worded}
-use Rattle.poke_tool.proofs.Plans.{as_failed}
+use Rattle.poke_base.proofs.ItemLines.{as_failed}
 use Rattle.poke_tool.proofs.bench.print_bench.Goals as goal
 
 pub returns-in_err-print : goal.returns-in_err-print

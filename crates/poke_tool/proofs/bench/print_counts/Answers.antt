@@ -2,8 +2,7 @@ use Rattle.std.proofs.Common.{◌≡◌, ◌∙◌, ◌<◌, [], List, ℕ, get_
 use Rattle.std.proofs.lemmas.Option.{slice_get-get_or}
 use Rattle.bench_run.specs.declared.counts.Counts.{Counts}
 use Rattle.poke_tool.specs.BenchText.{count_line, worded}
-use Rattle.poke_tool.proofs.ItemLines.{item_failed, item_printed}
-use Rattle.poke_tool.proofs.Plans.{as_failed}
+use Rattle.poke_base.proofs.ItemLines.{as_failed, item_failed, item_printed}
 use Rattle.poke_tool.proofs.bench.print_counts.Goals as goal
 
 -- the count with a number

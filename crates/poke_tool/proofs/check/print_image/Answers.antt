@@ -4,7 +4,7 @@ use Rattle.poke_base.specs.Host.{Outside, Prints}
 use Rattle.poke_base.proofs.Outsides.{Prints-more, Prints-none, Prints-part}
 use Rattle.module_image.specs.SiteLine.{site_lines}
 use Rattle.poke_tool.specs.Check.{accepted_line, text_line}
-use Rattle.poke_tool.proofs.Plans.{as_failed}
+use Rattle.poke_base.proofs.ItemLines.{as_failed}
 use Rattle.poke_tool.proofs.check.print_image.Goals as goal
 
 -- the first of three texts failed

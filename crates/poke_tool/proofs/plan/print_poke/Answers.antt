@@ -1,7 +1,8 @@
 use Rattle.std.proofs.Common.{◌∙◌, drop, sym}
 use Rattle.poke_batch.specs.Poke.Item.{Puts, Syncs}
 use Rattle.poke_tool.specs.Plan.{to_print}
-use Rattle.poke_tool.proofs.Plans.{as_failed, printed-more, printed-part, request_next, request_printed, write_first, write_next}
+use Rattle.poke_base.proofs.ItemLines.{as_failed}
+use Rattle.poke_tool.proofs.Plans.{printed-more, printed-part, request_next, request_printed, write_first, write_next}
 use Rattle.poke_tool.proofs.plan.print_poke.Goals as goal
 
 pub returns-in_err-print_write-in-Write : goal.returns-in_err-print_write-in-Write

@@ -3,7 +3,7 @@ use Rattle.poke_base.specs.declared.host.WriteFail.{WriteFail}
 use Rattle.poke_base.specs.Host.{Prints}
 use Rattle.site_tables.specs.Entry.{entry_size}
 use Rattle.poke_tool.specs.Module.{entry_line}
-use Rattle.poke_tool.proofs.Plans.{as_failed}
+use Rattle.poke_base.proofs.ItemLines.{as_failed}
 use Rattle.poke_tool.proofs.TableLines.{line_failed, line_printed, table_text-whole}
 use Rattle.poke_tool.proofs.print_table.print_table.Goals as goal
 

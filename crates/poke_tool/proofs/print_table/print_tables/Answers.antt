@@ -3,7 +3,7 @@ use Rattle.poke_base.proofs.Outsides.{Prints-more, Prints-part}
 use Rattle.site_tables.specs.declared.entries.TableKind.TheVariants.{Jump, Call, Trace}
 use Rattle.site_tables.specs.Found.{section_in}
 use Rattle.poke_tool.specs.Module.{table_text}
-use Rattle.poke_tool.proofs.Plans.{as_failed}
+use Rattle.poke_base.proofs.ItemLines.{as_failed}
 use Rattle.poke_tool.proofs.print_table.print_tables.Goals as goal
 
 pub returns-in_err-print_table-2 : goal.returns-in_err-print_table-2

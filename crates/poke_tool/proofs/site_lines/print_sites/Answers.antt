@@ -5,8 +5,7 @@ use Rattle.poke_base.specs.Host.{Prints}
 use Rattle.module_image.specs.declared.site.Site.{Site}
 use Rattle.module_image.specs.declared.site.SiteKind.TheVariants.{Jump}
 use Rattle.module_image.specs.SiteLine.{line_of, site_line, site_lines}
-use Rattle.poke_tool.proofs.Plans.{as_failed}
-use Rattle.poke_tool.proofs.ItemLines.{item_failed, item_printed}
+use Rattle.poke_base.proofs.ItemLines.{as_failed, item_failed, item_printed}
 use Rattle.poke_tool.proofs.site_lines.print_sites.Goals as goal
 
 -- what stands where a list has no site

@@ -1,8 +1,8 @@
 use Rattle.std.proofs.Common.{◌∙◌, Some, ap, sym}
 use Rattle.std.proofs.lemmas.Option.{slice_get-get_or}
 use Rattle.key_state.specs.declared.outcome.Outcome.{Outcome}
+use Rattle.poke_base.proofs.ItemLines.{as_failed}
 use Rattle.poke_tool.proofs.OutcomeLines.{outcome_failed, outcome_printed}
-use Rattle.poke_tool.proofs.Plans.{as_failed}
 use Rattle.poke_tool.proofs.wants.print_outcomes.Goals as goal
 
 pub returns-in_err-print : goal.returns-in_err-print

@@ -2,7 +2,7 @@ use Rattle.std.proofs.Common.{◌∙◌, None, get_or}
 use Rattle.std.proofs.lemmas.Option.{slice_get-get_or}
 use Rattle.recorded_run.specs.declared.tracing.Dropped.{Dropped}
 use Rattle.recorded_run.specs.Tally.{dropped_line}
-use Rattle.recorded_run.proofs.ItemLines.{as_failed, item_failed}
+use Rattle.poke_base.proofs.ItemLines.{as_failed, item_failed}
 use Rattle.recorded_run.proofs.ending.print_dropped.Goals as goal
 
 pub returns-in_err-print : goal.returns-in_err-print

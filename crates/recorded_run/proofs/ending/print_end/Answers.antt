@@ -3,7 +3,7 @@ use Rattle.std.specs.List.{flat_map}
 use Rattle.poke_base.proofs.Outsides.{Prints-more, Prints-part, Prints-prefix}
 use Rattle.recorded_run.specs.Tally.{dropped_line, tracer_lines}
 use Rattle.recorded_run.specs.Trace.{sites_text}
-use Rattle.recorded_run.proofs.ItemLines.{as_failed}
+use Rattle.poke_base.proofs.ItemLines.{as_failed}
 use Rattle.recorded_run.proofs.Tallies.{are_some_totals, some_totals}
 use Rattle.recorded_run.proofs.ending.print_end.Goals as goal
 

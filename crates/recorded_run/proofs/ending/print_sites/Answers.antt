@@ -1,7 +1,7 @@
 use Rattle.std.proofs.Common.{◌≡◌, ◌∙◌, ◌<◌, length, ap, arith}
 use Rattle.module_image.specs.Module.{Module}
 use Rattle.switching.specs.Laws.{held_text}
-use Rattle.recorded_run.proofs.ItemLines.{as_failed}
+use Rattle.poke_base.proofs.ItemLines.{as_failed}
 use Rattle.recorded_run.proofs.SiteLines.{site_failed, site_printed}
 use Rattle.recorded_run.proofs.ending.print_sites.Goals as goal
 

@@ -1,6 +1,5 @@
 -- What was made is a crew: its plan is the script's, and its processors start at functions.
-use Rattle.std.proofs.Common.{◌∙◌, ap, arith, rules, sym, subst, ℕ}
-use Rattle.std.proofs.lemmas.List.Elements.{All-weaker}
+use Rattle.std.proofs.Common.{◌∙◌, ap, arith, rules, sym, subst}
 use Rattle.live_text.specs.declared.plan.LivePlan.{LivePlan}
 use Rattle.live_engine.specs.LivePlan.{IsLivePlan, last_bytes}
 use Rattle.live_engine.proofs.CrewStarts.{entries-start}

@@ -1,6 +1,6 @@
 use Rattle.std.proofs.Common.{◌-◌, length}
 use Rattle.cpu_core.proofs.Begun.{IsBegun}
-use Rattle.cpu_core.proofs.fetch.fetch.Given as goal
+use Rattle.cpu_core.proofs.fetch.fetch_each.Given as goal
 
 abbrev pub invariant-bytes : goal.invariant-bytes
 invariant-bytes g l =
