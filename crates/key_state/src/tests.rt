@@ -1,7 +1,7 @@
 //! Updates of small modules whose text stands at 401000.
-ghost use Rattle.key_state.specs.Changes.{AreStatesOf};
 ghost use Rattle.key_state.specs.Settled.{IsSettledOf};
 ghost use Rattle.module_image.specs.Command.{IsCommandOf};
+ghost use Rattle.module_image.specs.Lent.{IsKeyOf};
 
 use crate::count::count_after;
 use crate::{CountRefused, Keys, Outcome, Settled};
@@ -12,42 +12,11 @@ use module_image::{Command, Image, KeyClass};
 use poke_base::code_bytes;
 use poke_batch::Clash;
 use small_module::{F, Small};
-use std::alloc::Global;
 use std::process::Abort;
 use std::test::Fail;
 
 /// The greatest count of a key.
 const GREATEST: u32 = 2_147_483_647;
-
-/// A module of a text with these sites, one key `k`, and one function.
-fn module<R: Abort + AllocGlobal>(
-    rt: &R,
-    text: &[u8],
-    sites: &[PlanSite],
-    key: KeyStart,
-    function: (&[u8], u64),
-) -> Result<Image, Fail> {
-    let alloc = rt.alloc();
-    let small = Small {
-        text,
-        sites,
-        keys: &[(b"k", key)],
-        functions: &[function],
-    };
-    let bytes = small.file(alloc)?;
-    assert!(rt; bytes.len() < 10_000);
-    Ok(Image::accept(alloc, &ElfFile::read(&bytes)?)?)
-}
-
-/// A switch of the key.
-fn jump(at: u64, target: u64, likely: bool) -> PlanSite {
-    PlanSite::Jump {
-        at,
-        target,
-        key: 0,
-        likely,
-    }
-}
 
 /// The counts at which each command is tried.
 const COUNTS: [u32; 4] = [0, 1, 2, GREATEST];
@@ -81,283 +50,294 @@ fn counts_follow_the_table(rt: HostRuntime) {
 }
 
 /// Two switches of one key, which isn't enabled: one of two bytes, and a likely one of five.
-fn two_switches<R: Abort + AllocGlobal>(rt: &R) -> Result<Image, Fail> {
-    module(
-        rt,
-        b"f\x90\x0f\x1fD\0\0\xff\xc0\xc3",
-        &[jump(F, F + 9, false), jump(F + 2, F + 9, true)],
-        KeyStart::Count(0),
-        (b"f", F),
-    )
+const TWO_SWITCHES: Small<'static> = Small {
+    text: b"f\x90\x0f\x1fD\0\0\xff\xc0\xc3",
+    sites: &[
+        PlanSite::Jump {
+            at: F,
+            target: F + 9,
+            key: 0,
+            likely: false,
+        },
+        PlanSite::Jump {
+            at: F + 2,
+            target: F + 9,
+            key: 0,
+            likely: true,
+        },
+    ],
+    keys: &[(b"k", KeyStart::Count(0))],
+    functions: &[(b"f", F)],
+};
+
+/// The text of the two switches while their key isn't enabled.
+const SWITCHED_OFF: &[u8] = b"f\x90\xe9\x02\0\0\0\xff\xc0\xc3";
+
+/// Their text while it is.
+const SWITCHED_ON: &[u8] = b"\xeb\x07\x0f\x1fD\0\0\xff\xc0\xc3";
+
+/// Three traced sites of five bytes, the second of which holds a load, and the function that is called where they are
+/// traced.
+const TRACES: Small<'static> = Small {
+    text: b"\x0f\x1fD\0\0\xb8\x01\0\0\0\x0f\x1fD\0\0\xc3",
+    sites: &[
+        PlanSite::Trace { at: F },
+        PlanSite::Trace { at: F + 5 },
+        PlanSite::Trace { at: F + 10 },
+    ],
+    keys: &[],
+    functions: &[(b"ftrace_caller", F + 15)],
+};
+
+/// A call and a tail call of one key, which holds no function, and a function.
+const CALLS: Small<'static> = Small {
+    text: b"\x0f\x1fD\0\0\xc3\xcc\xcc\xcc\xcc\xc3",
+    sites: &[
+        PlanSite::Call {
+            at: F,
+            key: 0,
+            tail: false,
+        },
+        PlanSite::Call {
+            at: F + 5,
+            key: 0,
+            tail: true,
+        },
+    ],
+    keys: &[(b"k", KeyStart::Func(0))],
+    functions: &[(b"g", F + 10)],
+};
+
+/// The module.
+fn image<R: Abort + AllocGlobal>(rt: &R, small: &Small<'_>) -> Result<Image, Fail> {
+    let bytes = small.file(rt.alloc())?;
+    assert!(rt; bytes.len() < 10_000);
+    Ok(Image::accept(rt.alloc(), &ElfFile::read(&bytes)?)?)
 }
 
-/// Takes a command, and asserts how its update ends.
-fn ends<R: Abort>(rt: &R, settled: &mut Settled, image: &Image, command: Command, outcome: Outcome)
-    requires of { IsSettledOf image.now settled.old }
-    requires command { IsCommandOf image.now command }
+/// A command, by what its key `k`, its function or its site is called.
+#[derive(Clone, Copy, Debug)]
+enum Asked {
+    Inc,
+    Dec,
+    Enable,
+    Disable,
+    Call(&'static [u8]),
+    CallNone,
+    Trace(u64),
+    TraceAll,
+    TraceNone,
+}
+
+/// The command of a module.
+fn command<R: Abort>(rt: &R, image: &Image, asked: Asked) -> Command
+    ensures { IsCommandOf image.now result }
+{
+    match asked {
+        Asked::Inc => Command::Inc(key(rt, image, KeyClass::Jump)),
+        Asked::Dec => Command::Dec(key(rt, image, KeyClass::Jump)),
+        Asked::Enable => Command::Enable(key(rt, image, KeyClass::Jump)),
+        Asked::Disable => Command::Disable(key(rt, image, KeyClass::Jump)),
+        Asked::Call(name) => {
+            let function = image.function_named(name).expect(rt, "a function");
+            Command::Target(key(rt, image, KeyClass::Call), function)
+        }
+        Asked::CallNone => Command::Target(key(rt, image, KeyClass::Call), 0),
+        Asked::Trace(at) => {
+            let site = image.trace_site_of(at).expect(rt, "a trace site");
+            Command::Trace(site, true)
+        }
+        Asked::TraceAll => Command::TraceAll(true),
+        Asked::TraceNone => Command::TraceAll(false),
+    }
+}
+
+/// The number of the key `k`.
+fn key<R: Abort>(rt: &R, image: &Image, class: KeyClass) -> u32
+    ensures { IsKeyOf image.now.keys class result }
+{
+    image.key_named(class, b"k").expect(rt, "a key")
+}
+
+/// How an update ends: as an outcome, but for a clash by its address alone, at a site that holds a load of 1.
+#[derive(Clone, Copy)]
+enum Ended {
+    Done(u32),
+    Count(u32),
+    Clash(u64),
+}
+
+/// The outcome.
+fn outcome(ended: Ended) -> Outcome {
+    match ended {
+        Ended::Done(changes) => Outcome::Done(changes),
+        Ended::Count(count) => Outcome::Count(count),
+        Ended::Clash(at) => Outcome::Clash(Clash {
+            at,
+            found: code_bytes(0xb8, &[1, 0, 0, 0]),
+            expected: code_bytes(0x0f, &[0x1f, 0x44, 0, 0]),
+        }),
+    }
+}
+
+/// Takes commands one after the other, and asserts how their updates end.
+fn takes<R: Abort>(rt: &R, image: &Image, settled: &mut Settled, steps: &[(Asked, Ended)])
+    requires { IsSettledOf image.now settled.old }
     ensures { IsSettledOf image.now settled.new }
 {
-    assert_eq!(rt; settled.take(image, &command), outcome, "{command:?}");
+    for (asked, ended) in steps {
+        let command = command(rt, image, *asked);
+        assert_eq!(rt; settled.take(image, &command), outcome(*ended), "{asked:?}");
+    }
 }
+
+/// Asserts what stands there at the end of a run, in its text and outside, and which changes the last update made.
+fn stands<R: Abort>(rt: &R, settled: &Settled, text: &[u8], changed: &[Change]) {
+    assert_eq!(rt; settled.text(), text);
+    assert_eq!(rt; settled.changed(), changed);
+    assert_eq!(rt; settled.held(F), text.first().copied());
+    let ends_at = F.wrapping_add(text.len() as u64);
+    assert_eq!(rt; settled.held(ends_at.wrapping_sub(1)), text.last().copied());
+    assert_eq!(rt; settled.held(F - 1), None);
+    assert_eq!(rt; settled.held(ends_at), None);
+}
+
+/// Takes commands of a module one after the other, and asserts how their updates end, what the text then holds and which changes the
+/// last update made.
+fn runs<R: Abort + AllocGlobal>(
+    rt: &R,
+    small: &Small<'_>,
+    steps: &[(Asked, Ended)],
+    text: &[u8],
+    changed: &[Change],
+) -> Result<(), Fail> {
+    let image = image(rt, small)?;
+    let mut settled = Settled::new(rt.alloc(), &image)?;
+    takes(rt, &image, &mut settled, steps);
+    stands(rt, &settled, text, changed);
+    Ok(())
+}
+
+/// A switch of two bytes, and one of five, as they are while their key isn't enabled, and as they are while it is.
+const ENABLED: [Change; 2] = [
+    Change {
+        at: F,
+        old: Form::Nop2,
+        new: Form::Jmp8(F + 9),
+    },
+    Change {
+        at: F + 2,
+        old: Form::Jmp32(F + 9),
+        new: Form::Nop5,
+    },
+];
 
 #[test]
 fn commands_end_in_order(rt: HostRuntime) -> Result<(), Fail> {
-    let image = two_switches(&rt)?;
-    let key = image.key_named(KeyClass::Jump, b"k").expect(&rt, "k");
-    let mut settled = Settled::new(rt.alloc(), &image)?;
-    ends(
-        &rt,
-        &mut settled,
-        &image,
-        Command::Dec(key),
-        Outcome::Count(0),
-    );
-    ends(
-        &rt,
-        &mut settled,
-        &image,
-        Command::Inc(key),
-        Outcome::Done(2),
-    );
-    ends(
-        &rt,
-        &mut settled,
-        &image,
-        Command::Inc(key),
-        Outcome::Done(0),
-    );
-    ends(
-        &rt,
-        &mut settled,
-        &image,
-        Command::Enable(key),
-        Outcome::Count(2),
-    );
-    ends(
-        &rt,
-        &mut settled,
-        &image,
-        Command::Disable(key),
-        Outcome::Count(2),
-    );
-    Ok(())
+    let steps = [
+        (Asked::Dec, Ended::Count(0)),
+        (Asked::Inc, Ended::Done(2)),
+        (Asked::Inc, Ended::Done(0)),
+        (Asked::Enable, Ended::Count(2)),
+        (Asked::Disable, Ended::Count(2)),
+    ];
+    runs(&rt, &TWO_SWITCHES, &steps, SWITCHED_ON, &[])
 }
 
 #[test]
 fn a_count_goes_up_and_down(rt: HostRuntime) -> Result<(), Fail> {
-    let image = two_switches(&rt)?;
-    let key = image.key_named(KeyClass::Jump, b"k").expect(&rt, "k");
-    let mut settled = Settled::new(rt.alloc(), &image)?;
-    ends(
-        &rt,
-        &mut settled,
-        &image,
-        Command::Inc(key),
-        Outcome::Done(2),
-    );
-    ends(
-        &rt,
-        &mut settled,
-        &image,
-        Command::Inc(key),
-        Outcome::Done(0),
-    );
-    ends(
-        &rt,
-        &mut settled,
-        &image,
-        Command::Dec(key),
-        Outcome::Done(0),
-    );
-    ends(
-        &rt,
-        &mut settled,
-        &image,
-        Command::Disable(key),
-        Outcome::Done(2),
-    );
-    ends(
-        &rt,
-        &mut settled,
-        &image,
-        Command::Disable(key),
-        Outcome::Done(0),
-    );
-    Ok(())
-}
-
-/// Asserts what a text holds at addresses.
-fn holds<R: Abort, T: Held>(rt: &R, text: &T, bytes: &[(u64, Option<u8>)]) {
-    for (at, byte) in bytes {
-        assert_eq!(rt; text.held(*at), *byte, "{at:x}");
-    }
+    let steps = [
+        (Asked::Inc, Ended::Done(2)),
+        (Asked::Inc, Ended::Done(0)),
+        (Asked::Dec, Ended::Done(0)),
+        (Asked::Disable, Ended::Done(2)),
+        (Asked::Disable, Ended::Done(0)),
+    ];
+    runs(&rt, &TWO_SWITCHES, &steps, SWITCHED_OFF, &[])
 }
 
 #[test]
 fn an_update_writes_the_text(rt: HostRuntime) -> Result<(), Fail> {
-    let image = two_switches(&rt)?;
-    let key = image.key_named(KeyClass::Jump, b"k").expect(&rt, "k");
-    let mut settled = Settled::new(rt.alloc(), &image)?;
-    assert_eq!(rt;
-        settled.text(),
-        b"f\x90\xe9\x02\0\0\0\xff\xc0\xc3".as_slice()
-    );
-    ends(
-        &rt,
-        &mut settled,
-        &image,
-        Command::Enable(key),
-        Outcome::Done(2),
-    );
-    assert_eq!(rt;
-        settled.text(),
-        b"\xeb\x07\x0f\x1fD\0\0\xff\xc0\xc3".as_slice()
-    );
-    let changes = [
-        Change {
-            at: F,
-            old: Form::Nop2,
-            new: Form::Jmp8(F + 9),
-        },
-        Change {
-            at: F + 2,
-            old: Form::Jmp32(F + 9),
-            new: Form::Nop5,
-        },
-    ];
-    assert_eq!(rt; settled.changed(), changes.as_slice());
-    let ends_at = F + 10;
-    let bytes = [
-        (F - 1, None),
-        (F, Some(0xeb)),
-        (F + 9, Some(0xc3)),
-        (ends_at, None),
-    ];
-    holds(&rt, &settled, &bytes);
-    Ok(())
+    runs(&rt, &TWO_SWITCHES, &[], SWITCHED_OFF, &[])?;
+    let enabled = [(Asked::Enable, Ended::Done(2))];
+    runs(&rt, &TWO_SWITCHES, &enabled, SWITCHED_ON, &ENABLED)
 }
 
-/// Asserts which form the site with a number wants.
-fn wants<R: Abort>(rt: &R, keys: &Keys, image: &Image, site: u32, form: Form)
-    requires { AreStatesOf image.now keys.now }
-{
-    assert!(rt; (site as usize) < image.sites().len());
-    assert_eq!(rt; keys.wants(image, site), form, "{site}");
+/// Asserts which forms the sites of a module want, by their numbers.
+fn want<R: Abort + AllocGlobal>(rt: &R, image: &Image, forms: &[Form]) -> Result<(), Fail> {
+    let keys = Keys::of(rt.alloc(), image)?;
+    assert_eq!(rt; forms.len(), image.sites().len());
+    for site in 0..forms.len() {
+        assert_eq!(rt; keys.wants(image, site as u32), forms[site], "{site}");
+    }
+    Ok(())
 }
 
 #[test]
 fn sites_want_forms(rt: HostRuntime) -> Result<(), Fail> {
-    let image = two_switches(&rt)?;
-    let keys = Keys::of(rt.alloc(), &image)?;
-    wants(&rt, &keys, &image, 0, Form::Nop2);
-    wants(&rt, &keys, &image, 1, Form::Jmp32(F + 9));
-    Ok(())
-}
-
-/// Three traced sites of five bytes, of which some hold a load, and the function that is called where they are traced.
-fn traces<R: Abort + AllocGlobal>(rt: &R, text: &[u8]) -> Result<Image, Fail> {
-    module(
-        rt,
-        text,
-        &[
-            PlanSite::Trace { at: F },
-            PlanSite::Trace { at: F + 5 },
-            PlanSite::Trace { at: F + 10 },
-        ],
-        KeyStart::Count(0),
-        (b"ftrace_caller", F + 15),
-    )
-}
-
-/// A load of 1, which is no form of a traced site, and what was expected there.
-fn clash(at: u64) -> Clash {
-    Clash {
-        at,
-        found: code_bytes(0xb8, &[1, 0, 0, 0]),
-        expected: code_bytes(0x0f, &[0x1f, 0x44, 0, 0]),
-    }
-}
-
-/// Traces all sites of a text, the first foreign one of which stands at an address.
-fn clashes<R: Abort + AllocGlobal>(rt: &R, text: &[u8], at: u64) -> Result<(), Fail> {
-    let image = traces(rt, text)?;
-    let mut settled = Settled::new(rt.alloc(), &image)?;
-    ends(
-        rt,
-        &mut settled,
-        &image,
-        Command::TraceAll(true),
-        Outcome::Clash(clash(at)),
-    );
-    assert_eq!(rt; settled.text(), text, "{at:x}");
-    assert_eq!(rt; settled.changed().len(), 0, "{at:x}");
-    ends(
-        rt,
-        &mut settled,
-        &image,
-        Command::TraceAll(false),
-        Outcome::Done(0),
-    );
-    Ok(())
+    let image = image(&rt, &TWO_SWITCHES)?;
+    want(&rt, &image, &[Form::Nop2, Form::Jmp32(F + 9)])
 }
 
 #[test]
 fn foreign_sites_clash(rt: HostRuntime) -> Result<(), Fail> {
-    clashes(&rt, b"\xb8\x01\0\0\0\x0f\x1fD\0\0\x0f\x1fD\0\0\xc3", F)?;
-    clashes(&rt, b"\x0f\x1fD\0\0\xb8\x01\0\0\0\x0f\x1fD\0\0\xc3", F + 5)?;
-    clashes(&rt, b"\x0f\x1fD\0\0\x0f\x1fD\0\0\xb8\x01\0\0\0\xc3", F + 10)?;
-    clashes(&rt, b"\x0f\x1fD\0\0\xb8\x01\0\0\0\xb8\x01\0\0\0\xc3", F + 5)?;
+    let rows: [(&[u8], u64); 4] = [
+        (b"\xb8\x01\0\0\0\x0f\x1fD\0\0\x0f\x1fD\0\0\xc3", F),
+        (b"\x0f\x1fD\0\0\xb8\x01\0\0\0\x0f\x1fD\0\0\xc3", F + 5),
+        (b"\x0f\x1fD\0\0\x0f\x1fD\0\0\xb8\x01\0\0\0\xc3", F + 10),
+        (b"\x0f\x1fD\0\0\xb8\x01\0\0\0\xb8\x01\0\0\0\xc3", F + 5),
+    ];
+    for (text, at) in rows {
+        let small = Small { text, ..TRACES };
+        let steps = [
+            (Asked::TraceAll, Ended::Clash(at)),
+            (Asked::TraceNone, Ended::Done(0)),
+        ];
+        runs(&rt, &small, &steps, text, &[])?;
+    }
     Ok(())
 }
+
+/// The text of the three sites while the last is traced.
+const LAST_TRACED: &[u8] = b"\x0f\x1fD\0\0\xb8\x01\0\0\0\xe8\0\0\0\0\xc3";
 
 #[test]
 fn a_site_is_traced(rt: HostRuntime) -> Result<(), Fail> {
-    let text = b"\x0f\x1fD\0\0\xb8\x01\0\0\0\x0f\x1fD\0\0\xc3";
-    let image = traces(&rt, text)?;
-    let site = image.trace_site_of(F + 10).expect(&rt, "a trace site");
-    let mut settled = Settled::new(rt.alloc(), &image)?;
-    assert_eq!(rt;
-        settled.take(&image, &Command::Trace(site, true)),
-        Outcome::Done(1)
-    );
-    let traced = b"\x0f\x1fD\0\0\xb8\x01\0\0\0\xe8\0\0\0\0\xc3";
-    assert_eq!(rt; settled.text(), traced.as_slice());
-    Ok(())
+    let call = Change {
+        at: F + 10,
+        old: Form::Nop5,
+        new: Form::Call(F + 15),
+    };
+    let traced = (Asked::Trace(F + 10), Ended::Done(1));
+    runs(&rt, &TRACES, &[traced], LAST_TRACED, &[call])?;
+    // A clash leaves no change of the update before.
+    let clash = (Asked::TraceAll, Ended::Clash(F + 5));
+    runs(&rt, &TRACES, &[traced, clash], LAST_TRACED, &[])
 }
+
+/// The text of the call and the tail call while their key holds the function.
+const CALLED: &[u8] = b"\xe8\x05\0\0\0\xe9\0\0\0\0\xc3";
 
 #[test]
 fn a_call_has_another_function(rt: HostRuntime) -> Result<(), Fail> {
-    let call = PlanSite::Call {
+    let call = Change {
         at: F,
-        key: 0,
-        tail: false,
+        old: Form::Nop5,
+        new: Form::Call(F + 10),
     };
-    let tail = PlanSite::Call {
+    let tail = Change {
         at: F + 5,
-        key: 0,
-        tail: true,
+        old: Form::Ret,
+        new: Form::Jmp32(F + 10),
     };
-    let image = module(
-        &rt,
-        b"\x0f\x1fD\0\0\xc3\xcc\xcc\xcc\xcc\xc3",
-        &[call, tail],
-        KeyStart::Func(0),
-        (b"g", F + 10),
-    )?;
-    let key = image.key_named(KeyClass::Call, b"k").expect(&rt, "k");
-    let function = image.function_named(b"g").expect(&rt, "g");
-    let mut settled = Settled::new(rt.alloc(), &image)?;
-    assert_eq!(rt;
-        settled.take(&image, &Command::Target(key, function)),
-        Outcome::Done(2)
-    );
-    let called = b"\xe8\x05\0\0\0\xe9\0\0\0\0\xc3";
-    assert_eq!(rt; settled.text(), called.as_slice());
-    assert_eq!(rt;
-        settled.take(&image, &Command::Target(key, 0)),
-        Outcome::Done(2)
-    );
-    let none = b"\x0f\x1fD\0\0\xc3\xcc\xcc\xcc\xcc\xc3";
-    assert_eq!(rt; settled.text(), none.as_slice());
-    Ok(())
+    let called = (Asked::Call(b"g"), Ended::Done(2));
+    runs(&rt, &CALLS, &[called], CALLED, &[call, tail])?;
+    let back = |change: Change| Change {
+        at: change.at,
+        old: change.new,
+        new: change.old,
+    };
+    let changed = [back(call), back(tail)];
+    let none = (Asked::CallNone, Ended::Done(2));
+    runs(&rt, &CALLS, &[called, none], CALLS.text, &changed)
 }

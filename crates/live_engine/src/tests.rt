@@ -75,13 +75,27 @@ fn script(rt: &impl Abort, alloc: Global, text: &[u8], image: &Image) -> Result<
     Ok(Script::read(alloc, text, image)?)
 }
 
+/// Asserts the sites of the plan of a script, and its chunks, which have one change each.
+fn plans(
+    rt: &(impl Abort + AllocGlobal),
+    image: &Image,
+    script: &Script,
+    sites: &[LiveSite],
+    changes: &[Change],
+) -> Result<(), Fail>
+    requires { IsScriptOf image.now script.now }
+{
+    let plan = live_plan(rt.alloc(), image, script)?;
+    assert_eq!(rt; plan.sites.as_slice(), sites);
+    assert_eq!(rt; plan.chunks.len(), changes.len());
+    for (chunk, change) in plan.chunks.iter().zip(changes) {
+        assert_eq!(rt; chunk.as_slice(), [*change].as_slice());
+    }
+    Ok(())
+}
+
 #[test]
 fn a_plan_has_the_chunks_of_updates_that_are_done(rt: HostRuntime) -> Result<(), Fail> {
-    let alloc = rt.alloc();
-    let image = image(&rt, alloc, &PAIR)?;
-    let text = b"cpu f\ndec k\ninc k\ninc k\ndec k\ninc l\ndec k";
-    let script = script(&rt, alloc, text, &image)?;
-    let plan = live_plan(alloc, &image, &script)?;
     let near = LiveSite {
         at: F,
         start: Form::Nop2,
@@ -90,7 +104,6 @@ fn a_plan_has_the_chunks_of_updates_that_are_done(rt: HostRuntime) -> Result<(),
         at: F + 2,
         start: Form::Nop5,
     };
-    assert_eq!(rt; plan.sites.as_slice(), [near, far].as_slice());
     let on = Change {
         at: F,
         old: Form::Nop2,
@@ -106,11 +119,10 @@ fn a_plan_has_the_chunks_of_updates_that_are_done(rt: HostRuntime) -> Result<(),
         old: on.new,
         new: on.old,
     };
-    assert_eq!(rt; plan.chunks.len(), 3);
-    assert_eq!(rt; plan.chunks[0].as_slice(), [on].as_slice());
-    assert_eq!(rt; plan.chunks[1].as_slice(), [other].as_slice());
-    assert_eq!(rt; plan.chunks[2].as_slice(), [off].as_slice());
-    Ok(())
+    let text = b"cpu f\ndec k\ninc k\ninc k\ndec k\ninc l\ndec k";
+    let image = image(&rt, rt.alloc(), &PAIR)?;
+    let script = script(&rt, rt.alloc(), text, &image)?;
+    plans(&rt, &image, &script, &[near, far], &[on, other, off])
 }
 
 /// A live run of a script.
@@ -187,6 +199,17 @@ fn passes_whole(rt: &impl Abort, turn: Turn) {
     }
 }
 
+/// Checks the walks of sixteen processors, 100 to 200 turns each.
+fn walk_whole(rt: &impl Abort, walks: &[Vec<Turn>]) {
+    assert_eq!(rt; walks.len(), 16);
+    for walk in walks {
+        assert!(rt; 100 <= walk.len() && walk.len() <= 200);
+        for turn in walk {
+            passes_whole(rt, *turn);
+        }
+    }
+}
+
 #[test]
 fn sixteen_processors_run_beside_the_patch(rt: HostRuntime) -> Result<(), Fail> {
     let text =
@@ -198,13 +221,7 @@ fn sixteen_processors_run_beside_the_patch(rt: HostRuntime) -> Result<(), Fail> 
     };
     let run = lives(&rt, &SPIN, text, 200, &gate)?;
     assert_eq!(rt; run.sites.as_slice(), b"\xe9\0\0\0\0".as_slice());
-    assert_eq!(rt; run.walks.len(), 16);
-    for walk in &run.walks {
-        assert!(rt; 100 <= walk.len() && walk.len() <= 200);
-        for turn in walk {
-            passes_whole(&rt, *turn);
-        }
-    }
+    walk_whole(&rt, &run.walks);
     assert_eq!(rt; gate.first.load(Ordering::SeqCst), 200);
     assert_eq!(rt; gate.last.load(Ordering::SeqCst), 200);
     let patched = gate.patch.load(Ordering::SeqCst);

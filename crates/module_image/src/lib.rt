@@ -25,8 +25,6 @@ mod site;
 mod site_list;
 mod site_units;
 mod sweep;
-#[cfg(test)]
-mod sweep_tests;
 mod swept;
 mod text;
 mod text_section;

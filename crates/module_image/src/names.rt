@@ -67,24 +67,3 @@ fn put_entry<T: Copy + Drop>(
     values.insert(name, value)?;
     Ok(())
 }
-
-#[cfg(test)]
-mod tests {
-    use super::*;
-    use std::test::Fail;
-
-    #[test]
-    fn the_first_value_of_a_name_stays(rt: HostRuntime) -> Result<(), Fail> {
-        let alloc = rt.alloc();
-        let mut names = Names::new(alloc);
-        names.add(alloc, b"f", 1_u32)?;
-        names.add(alloc, b"g", 2)?;
-        names.add(alloc, b"f", 3)?;
-        names.add(alloc, b"", 4)?;
-        assert_eq!(rt; names.get(b"f"), Some(1));
-        assert_eq!(rt; names.get(b"g"), Some(2));
-        assert_eq!(rt; names.get(b""), Some(4));
-        assert_eq!(rt; names.get(b"fg"), None);
-        Ok(())
-    }
-}

@@ -173,51 +173,6 @@ impl<R: Files + AllocGlobal, O: Write, E: Write> Host for RealHost<R, O, E> {
 mod tests {
     use super::*;
     use std::test::Fail;
-    use std::{env, process};
-
-    /// More than three buffers of bytes that differ from one buffer to the next.
-    const LEN: usize = 3 * 4096 + 1;
-
-    #[test]
-    fn reads_what_it_wrote(rt: HostRuntime) -> Result<(), Fail> {
-        let alloc = rt.alloc();
-        let folder = env::temp_dir(&rt)?;
-        let number = process::id(rt.process());
-        let name = format!(in alloc; "{}/poke_base_{number}", folder.as_str())?;
-        let mut bytes = Vec::new(alloc);
-        for i in 0..LEN {
-            bytes.push((i % 251) as u8)?;
-        }
-        let mut host = RealHost::new(&rt);
-        host.make_file(name.as_str())?;
-        assert_eq!(rt; host.append(&bytes), Ok(()));
-        assert_eq!(rt; host.append(b"end"), Ok(()));
-        bytes.extend_from_slice(b"end")?;
-        let whole = LEN + 3;
-        let reads: [(usize, Result<(), ReadFail>, usize); 4] = [
-            (whole + 1, Ok(()), whole),
-            (whole, Ok(()), whole),
-            (whole - 1, Err(ReadFail::TooLong), whole),
-            (4095, Err(ReadFail::TooLong), 4096),
-        ];
-        for (limit, answer, count) in reads {
-            let mut out = Vec::new(alloc);
-            assert_eq!(rt;
-                host.read_file(name.as_str(), limit as u64, &mut out),
-                answer,
-                "at {limit}"
-            );
-            assert_eq!(rt; Some(out.as_slice()), bytes.get(..count), "at {limit}");
-            assert_eq!(rt; out.capacity(), count, "at {limit}");
-        }
-        fs::remove_file(&rt, name.as_str())?;
-        let mut nothing = Vec::new(alloc);
-        assert_eq!(rt;
-            host.read_file(name.as_str(), 5, &mut nothing),
-            Err(ReadFail::Failed)
-        );
-        Ok(())
-    }
 
     #[test]
     fn prints_and_complains_apart(rt: HostRuntime) -> Result<(), Fail> {
@@ -229,9 +184,6 @@ mod tests {
         }
         assert_eq!(rt; host.output.as_slice(), b"abc".as_slice());
         assert_eq!(rt; host.errors.as_slice(), b"textpoke: bad words\n".as_slice());
-        let mut real = RealHost::new(&rt);
-        assert_eq!(rt; real.print(b""), Ok(()));
-        assert_eq!(rt; real.complain(b""), Ok(()));
         Ok(())
     }
 }

@@ -2,13 +2,14 @@
 ghost use Rattle.std.specs.Prelude.{◌≡◌};
 
 use crate::frame::words;
-use crate::modules::TWO_SWITCHES;
 use live_engine::OpenGate;
 use poke_base::{AskedBy, Host, MemoryHost, NoMemory, ReadFail, WriteFail};
 use poke_tool::textpoke;
 use std::alloc::Global;
+use std::process::Abort;
 use std::test::Fail;
 use std::thread::Threads;
+use tried_modules::TWO_SWITCHES;
 
 /// A host in memory, and the names that its calls were handed, in order.
 #[derive(Drop)]
@@ -76,56 +77,72 @@ impl Host for AskedHost {
     }
 }
 
-#[test]
-fn the_one_name_is_asked(rt: HostRuntime) -> Result<(), Fail> {
-    let rows: [(&[&str], &[u8], AskedBy); 5] = [
-        (&["plan", "p"], b"p", AskedBy::Read),
-        (&["show", "m"], b"m", AskedBy::Read),
-        (&["check", "m"], b"m", AskedBy::Read),
-        (&["make", "10", "m"], b"m", AskedBy::Make),
-        // It isn't there, so the script isn't asked for.
-        (&["wants", "m", "s"], b"m", AskedBy::Read),
-    ];
-    let alloc = rt.alloc();
-    for (list, name, by) in rows {
-        let mut host = AskedHost::new(alloc);
-        let list = words(alloc, list)?;
-        let _ = textpoke(&rt, &list, &mut host, &mut Vec::new(alloc), &OpenGate);
-        let asked = host.asked();
-        assert_eq!(rt; asked.len(), 1);
-        assert_eq!(rt; asked[0].0.as_bytes(), name);
-        assert_eq!(rt; asked[0].1, by);
+/// A name that is asked for, and the call that it is handed to.
+type Asked<'a> = (&'a [u8], AskedBy);
+
+/// Runs the words of a command over a host, and asserts the names that it is asked for, in order.
+fn asks<R: Abort + AllocGlobal + Threads + Sync>(
+    rt: &R,
+    host: &mut AskedHost,
+    list: &[&str],
+    names: &[Asked<'_>],
+) -> Result<(), Fail> {
+    let list = words(rt.alloc(), list)?;
+    let _ = textpoke(rt, &list, host, &mut Vec::new(rt.alloc()), &OpenGate);
+    let asked = host.asked();
+    assert_eq!(rt; asked.len(), names.len());
+    for ((name, by), want) in asked.iter().zip(names) {
+        assert_eq!(rt; name.as_bytes(), want.0);
+        assert_eq!(rt; *by, want.1);
     }
     Ok(())
 }
 
-/// The host after `wants` on a module and a script that isn't there.
-fn after_wants<R: AllocGlobal + Threads + Sync>(rt: &R, module: &[u8]) -> Result<AskedHost, Fail> {
-    let alloc = rt.alloc();
-    let mut host = AskedHost::new(alloc);
+/// Runs the words of a command over a host with no file, and asserts the one name that it is asked for.
+fn asks_one<R: Abort + AllocGlobal + Threads + Sync>(
+    rt: &R,
+    list: &[&str],
+    name: Asked<'_>,
+) -> Result<(), Fail> {
+    asks(rt, &mut AskedHost::new(rt.alloc()), list, &[name])
+}
+
+#[test]
+fn the_one_name_is_asked(rt: HostRuntime) -> Result<(), Fail> {
+    let rows: [(&[&str], Asked<'_>); 5] = [
+        (&["plan", "p"], (b"p", AskedBy::Read)),
+        (&["show", "m"], (b"m", AskedBy::Read)),
+        (&["check", "m"], (b"m", AskedBy::Read)),
+        (&["make", "10", "m"], (b"m", AskedBy::Make)),
+        // It isn't there, so the script isn't asked for.
+        (&["wants", "m", "s"], (b"m", AskedBy::Read)),
+    ];
+    for (list, name) in rows {
+        asks_one(&rt, list, name)?;
+    }
+    Ok(())
+}
+
+/// Runs `wants` over a host with a module and no script, and asserts the names that it is asked for.
+fn wants_asks<R: Abort + AllocGlobal + Threads + Sync>(
+    rt: &R,
+    host: &mut AskedHost,
+    module: &[u8],
+    names: &[Asked<'_>],
+) -> Result<(), Fail> {
     host.put("m", module)?;
-    let list = words(alloc, &["wants", "m", "s"])?;
-    let _ = textpoke(rt, &list, &mut host, &mut Vec::new(alloc), &OpenGate);
-    Ok(host)
+    asks(rt, host, &["wants", "m", "s"], names)
 }
 
 #[test]
 fn the_script_is_asked_after_its_module(rt: HostRuntime) -> Result<(), Fail> {
-    let host = after_wants(&rt, &TWO_SWITCHES.file(rt.alloc())?)?;
-    let asked = host.asked();
-    assert_eq!(rt; asked.len(), 2);
-    assert_eq!(rt; asked[0].0.as_bytes(), b"m".as_slice());
-    assert_eq!(rt; asked[0].1, AskedBy::Read);
-    assert_eq!(rt; asked[1].0.as_bytes(), b"s".as_slice());
-    assert_eq!(rt; asked[1].1, AskedBy::Read);
-    Ok(())
+    let module = TWO_SWITCHES.file(rt.alloc())?;
+    let names: [Asked<'_>; 2] = [(b"m", AskedBy::Read), (b"s", AskedBy::Read)];
+    wants_asks(&rt, &mut AskedHost::new(rt.alloc()), &module, &names)
 }
 
 #[test]
 fn the_script_of_a_bad_module_is_not_asked(rt: HostRuntime) -> Result<(), Fail> {
-    let host = after_wants(&rt, b"no module")?;
-    let asked = host.asked();
-    assert_eq!(rt; asked.len(), 1);
-    assert_eq!(rt; asked[0].0.as_bytes(), b"m".as_slice());
-    Ok(())
+    let mut host = AskedHost::new(rt.alloc());
+    wants_asks(&rt, &mut host, b"no module", &[(b"m", AskedBy::Read)])
 }

@@ -1,10 +1,8 @@
 //! What runs the rows of a table: a command over a host in memory, and what has to come of it.
 
-use crate::modules::{Place, change};
 use live_engine::OpenGate;
 use poke_base::MemoryHost;
 use poke_tool::textpoke;
-use small_module::Small;
 use std::alloc::Global;
 use std::process::Abort;
 use std::test::Fail;
@@ -44,30 +42,44 @@ pub fn run_over<R: Abort + AllocGlobal + Threads + Sync>(
     Ok(())
 }
 
-/// Runs a row over a host with its files, whose call with this number fails where there is one, and
-/// asserts what comes of it. Answers the host.
-pub fn run_failing<R: Abort + AllocGlobal + Threads + Sync>(
+/// The name of a file, and its bytes if it is there.
+pub type Left<'a> = (&'a str, Option<&'a [u8]>);
+
+/// Runs a row over a host with its files, whose calls with these numbers fail, and asserts what comes of it and
+/// which files are left.
+pub fn run_leaving<R: Abort + AllocGlobal + Threads + Sync>(
     rt: &R,
-    failing: Option<u64>,
+    failing: &[u64],
     row: &Row<'_>,
-) -> Result<MemoryHost, Fail> {
+    left: &[Left<'_>],
+) -> Result<(), Fail> {
     let mut host = MemoryHost::new(rt.alloc());
+    run_on(rt, &mut host, failing, row)?;
+    for &(name, bytes) in left {
+        assert_eq!(rt; host.file(name), bytes, "{name}");
+    }
+    Ok(())
+}
+
+/// Gives a host the files of a row, has calls with these numbers fail, and runs the row over it.
+fn run_on<R: Abort + AllocGlobal + Threads + Sync>(
+    rt: &R,
+    host: &mut MemoryHost,
+    failing: &[u64],
+    row: &Row<'_>,
+) -> Result<(), Fail> {
     for (name, bytes) in row.2 {
         host.put(name, bytes)?;
     }
-    if let Some(call) = failing {
-        host.fail_at(call)?;
+    for call in failing {
+        host.fail_at(*call)?;
     }
-    run_over(rt, &mut host, row)?;
-    Ok(host)
+    run_over(rt, host, row)
 }
 
-/// Runs a row over a host with its files, and asserts what comes of it. Answers the host.
-pub fn run<R: Abort + AllocGlobal + Threads + Sync>(
-    rt: &R,
-    row: &Row<'_>,
-) -> Result<MemoryHost, Fail> {
-    run_failing(rt, None, row)
+/// Runs a row over a host with its files, and asserts what comes of it.
+pub fn run<R: Abort + AllocGlobal + Threads + Sync>(rt: &R, row: &Row<'_>) -> Result<(), Fail> {
+    run_leaving(rt, &[], row, &[])
 }
 
 /// Which call of the host fails, the status, what is printed and what is reported.
@@ -83,81 +95,32 @@ pub fn run_failing_calls<R: Abort + AllocGlobal + Threads + Sync>(
 ) -> Result<(), Fail> {
     for &(failing, status, printed, reported) in rows {
         let row: Row<'_> = ("a call fails", words, &[file], status, printed, reported);
-        run_failing(rt, Some(failing), &row)?;
+        run_leaving(rt, &[failing], &row, &[])?;
     }
     let read = b"textpoke: read failed\n";
-    run(rt, &("no such file", words, &[], 5, b"", read))?;
-    Ok(())
+    run(rt, &("no such file", words, &[], 5, b"", read))
 }
 
-/// The host after a command on a module, which is done and reports nothing.
-pub fn host_after<R: Abort + AllocGlobal + Threads + Sync>(
+/// What `show` prints of a module, which is done and reports nothing.
+pub fn shown_of<R: Abort + AllocGlobal + Threads + Sync>(
     rt: &R,
-    command: &str,
     module: &[u8],
-) -> Result<MemoryHost, Fail> {
+) -> Result<Vec<u8>, Fail> {
     let mut host = MemoryHost::new(rt.alloc());
+    show_on(rt, &mut host, module)?;
+    Ok(Vec::from_slice(rt.alloc(), host.printed())?)
+}
+
+/// Gives a host a module, and runs `show` on it, which is done and reports nothing.
+fn show_on<R: Abort + AllocGlobal + Threads + Sync>(
+    rt: &R,
+    host: &mut MemoryHost,
+    module: &[u8],
+) -> Result<(), Fail> {
     host.put("m", module)?;
-    let list = words(rt.alloc(), &[command, "m"])?;
-    let status = textpoke(rt, &list, &mut host, &mut Vec::new(rt.alloc()), &OpenGate);
-    assert_eq!(rt; host.complained(), b"".as_slice(), "{command}");
-    assert_eq!(rt; status, 0, "{command}");
-    Ok(host)
-}
-
-/// Asserts that `check` accepts a file and prints this.
-pub fn accepts_file<R: Abort + AllocGlobal + Threads + Sync>(
-    rt: &R,
-    name: &str,
-    file: &[u8],
-    printed: &[u8],
-) -> Result<(), Fail> {
-    run(
-        rt,
-        &(name, &["check", "m"], &[("m", file)], 0, printed, b""),
-    )?;
+    let list = words(rt.alloc(), &["show", "m"])?;
+    let status = textpoke(rt, &list, host, &mut Vec::new(rt.alloc()), &OpenGate);
+    assert_eq!(rt; host.complained(), b"".as_slice());
+    assert_eq!(rt; status, 0);
     Ok(())
-}
-
-/// Asserts that `check` refuses a file, and says why.
-pub fn refuses_file<R: Abort + AllocGlobal + Threads + Sync>(
-    rt: &R,
-    name: &str,
-    file: &[u8],
-    why: &[u8],
-) -> Result<(), Fail> {
-    let mut reported = Vec::from_slice(rt.alloc(), b"textpoke: module: ")?;
-    reported.extend_from_slice(why)?;
-    reported.push(b'\n')?;
-    run(
-        rt,
-        &(name, &["check", "m"], &[("m", file)], 2, b"", &reported),
-    )?;
-    Ok(())
-}
-
-/// Asserts that `check` accepts a written module, some bytes of which were changed, and prints this.
-pub fn accepts<R: Abort + AllocGlobal + Threads + Sync>(
-    rt: &R,
-    name: &str,
-    small: &Small<'_>,
-    edits: &[(Place, u8)],
-    printed: &[u8],
-) -> Result<(), Fail> {
-    let mut bytes = small.file(rt.alloc())?;
-    change(&mut bytes, edits);
-    accepts_file(rt, name, &bytes, printed)
-}
-
-/// Asserts that `check` refuses a written module, some bytes of which were changed, and says why.
-pub fn refuses<R: Abort + AllocGlobal + Threads + Sync>(
-    rt: &R,
-    name: &str,
-    small: &Small<'_>,
-    edits: &[(Place, u8)],
-    why: &[u8],
-) -> Result<(), Fail> {
-    let mut bytes = small.file(rt.alloc())?;
-    change(&mut bytes, edits);
-    refuses_file(rt, name, &bytes, why)
 }

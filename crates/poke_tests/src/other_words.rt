@@ -1,9 +1,9 @@
 //! Words that are no command: nothing is read, made or printed.
 
-use crate::frame::run;
-use crate::modules::TWO_SWITCHES;
+use crate::frame::{Left, run_leaving};
 use crate::plans::NOP_TO_JMP;
 use std::test::Fail;
+use tried_modules::TWO_SWITCHES;
 
 #[test]
 fn other_words_are_refused(rt: HostRuntime) -> Result<(), Fail> {
@@ -29,11 +29,10 @@ fn other_words_are_refused(rt: HostRuntime) -> Result<(), Fail> {
     ];
     let module = TWO_SWITCHES.file(rt.alloc())?;
     let files: [(&str, &[u8]); 2] = [("p", NOP_TO_JMP), ("m", &module)];
+    let left: [Left<'_>; 2] = [("m", Some(&module)), ("n", None)];
     for (name, words) in rows {
         let reported = b"textpoke: bad words\n";
-        let host = run(&rt, &(name, words, &files, 1, b"", reported))?;
-        assert_eq!(rt; host.file("m"), Some(module.as_slice()), "{name}");
-        assert_eq!(rt; host.file("n"), None, "{name}");
+        run_leaving(&rt, &[], &(name, words, &files, 1, b"", reported), &left)?;
     }
     Ok(())
 }

@@ -1,7 +1,6 @@
 //! `plan`: what is printed of plan files, and why others are refused.
 
-use crate::frame::{Failing, run, run_failing_calls, run_over};
-use poke_base::MemoryHost;
+use crate::frame::{Failing, run, run_failing_calls, run_leaving};
 use std::test::Fail;
 
 /// A no-operation of five bytes becomes a jump.
@@ -179,20 +178,17 @@ fn failing_calls_have_a_status(rt: HostRuntime) -> Result<(), Fail> {
 
 #[test]
 fn a_complaint_that_fails_changes_no_status(rt: HostRuntime) -> Result<(), Fail> {
-    let mut host = MemoryHost::new(rt.alloc());
-    host.put("p", NOP_TO_JMP)?;
-    host.fail_at(1)?;
-    host.fail_at(2)?;
-    run_over(
+    run_leaving(
         &rt,
-        &mut host,
+        &[1, 2],
         &(
             "two calls fail",
             &["plan", "p"],
-            &[],
+            &[("p", NOP_TO_JMP)],
             5,
             b"",
             b"textpoke: r",
         ),
+        &[],
     )
 }

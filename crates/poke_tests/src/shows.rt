@@ -1,9 +1,9 @@
 //! `show`: what is printed of a module's tables, and why other files are refused.
 
 use crate::frame::{Failing, run, run_failing_calls};
-use crate::modules::{Place, TWO_SWITCHES, change};
 use std::alloc::Global;
 use std::test::Fail;
+use tried_modules::{Place, TWO_SWITCHES, change};
 
 /// The jump entries of the module with two switches.
 const JUMPS: &[u8] = b"jump 401000 401009 451000 unlikely\njump 401002 401009 451000 likely\n";
@@ -154,8 +154,7 @@ fn long_modules_are_refused(rt: HostRuntime) -> Result<(), Fail> {
     run(
         &rt,
         &("long", &["show", "m"], &[("m", &module)], 2, b"", reported),
-    )?;
-    Ok(())
+    )
 }
 
 #[test]

@@ -1,25 +1,12 @@
 //! `wants`: how the updates of a script end, and what the sites then hold.
 
-use crate::frame::{Row, run, run_failing, run_over};
-use crate::modules::{TWO_SWITCHES, jump};
-use elf_build::{KeyStart, PlanSite};
-use poke_base::MemoryHost;
-use small_module::{F, Small};
+use crate::frame::{Row, run, run_leaving};
+use elf_build::KeyStart;
+use small_module::{F, Small, TAIL};
 use std::process::Abort;
 use std::test::Fail;
 use std::thread::Threads;
-
-/// A call of a tail call, whose key holds the function after it.
-const TAIL: Small<'static> = Small {
-    text: b"\xe8\x03\0\0\0\xe6\x10\xf4\xe9\0\0\0\0\xb8\x01\0\0\0\xc3",
-    sites: &[PlanSite::Call {
-        at: F + 8,
-        key: 0,
-        tail: true,
-    }],
-    keys: &[(b"tk", KeyStart::Func(F + 13))],
-    functions: &[(b"f", F), (b"a", F + 13)],
-};
+use tried_modules::{TWO_SWITCHES, jump};
 
 /// Gives the tail call no function, and then the one that it had.
 const THERE_AND_BACK: &[u8] = b"cpu f\ncall tk -\ncall tk a\n";
@@ -58,12 +45,19 @@ fn wants<R: Abort + AllocGlobal + Threads + Sync>(
     script: &[u8],
     ended: (u8, &[u8], &[u8]),
 ) -> Result<(), Fail> {
-    let mut host = MemoryHost::new(rt.alloc());
-    host.put("m", module)?;
-    host.put("s", script)?;
     let (status, printed, reported) = ended;
-    let row: Row<'_> = (name, &["wants", "m", "s"], &[], status, printed, reported);
-    run_over(rt, &mut host, &row)
+    let files: [(&str, &[u8]); 2] = [("m", module), ("s", script)];
+    run(
+        rt,
+        &(
+            name,
+            &["wants", "m", "s"],
+            &files,
+            status,
+            printed,
+            reported,
+        ),
+    )
 }
 
 #[test]
@@ -202,7 +196,7 @@ fn failing_calls_leave_a_prefix(rt: HostRuntime) -> Result<(), Fail> {
             printed,
             reported,
         );
-        run_failing(&rt, Some(failing), &row)?;
+        run_leaving(&rt, &[failing], &row, &[])?;
     }
     Ok(())
 }

@@ -8,8 +8,8 @@ use Rattle.poke_base.proofs.Files.{get-inserted, insert-inserted}
 use Rattle.poke_base.proofs.Outsides.{Tells-more, Tells-no_more, Tells-same, Tells-trans}
 use Rattle.poke_tool.specs.Command.{Row, file_words}
 use Rattle.poke_tool.specs.Runs.{Asks, IsRead, LeavesAll, MakesNothing, ReadsInput, ReadsNone}
-use Rattle.poke_tool.specs.declared.fault.Fault.{Fault}
-use Rattle.poke_tool.specs.declared.fault.Refusal.{Refusal}
+use Rattle.poke_faults.specs.declared.fault.Fault.{Fault}
+use Rattle.poke_faults.specs.declared.fault.Refusal.{Refusal}
 use Rattle.poke_tool.specs.Saying.{Holds, told_before, where_told}
 
 -- what is told of a part is told of what is made of it

@@ -5,13 +5,13 @@ use Rattle.poke_base.specs.declared.host.AskedBy.TheVariants.{Read as AskedRead,
 use Rattle.poke_base.specs.Host.{Files, Outside, Rose, Tells, Adds, with_file, with_more}
 use Rattle.poke_base.specs.Text.{IsPrefix}
 use Rattle.poke_base.proofs.Outsides.{Tells-no_more, Tells-same, Tells-trans}
-use Rattle.poke_tool.specs.declared.fault.Fault.{Fault}
-use Rattle.poke_tool.specs.declared.fault.Fault.TheVariants.{Words, Refused, Read, Write, Memory}
-use Rattle.poke_tool.specs.declared.fault.Refusal.{Refusal}
-use Rattle.poke_tool.specs.declared.fault.Refusal.TheVariants.{Module, Plan, Script, Journal}
+use Rattle.poke_faults.specs.declared.fault.Fault.{Fault}
+use Rattle.poke_faults.specs.declared.fault.Fault.TheVariants.{Words, Refused, Read, Write, Memory}
+use Rattle.poke_faults.specs.declared.fault.Refusal.{Refusal}
+use Rattle.poke_faults.specs.declared.fault.Refusal.TheVariants.{Module, Plan, Script, Journal}
 use Rattle.poke_tool.specs.Command as command
 use Rattle.poke_tool.specs.Command.{Row, file_words}
-use Rattle.poke_tool.specs.Fault.{status_of, complaint_of, refusal_status}
+use Rattle.poke_faults.specs.Fault.{status_of, complaint_of, refusal_status}
 use Rattle.poke_tool.specs.RunCuts.{CutsRun, StopsBetween, StopsEarly}
 use Rattle.poke_tool.specs.Runs.{Concludes, Coupled, Cuts, DoesNamed, DoesSaying, Ends, FailsReading, FailsWriting, IsRead, LeavesAll, MadePart, MadeWhole, MakesNothing, MakesPrefix, RunsRow}
 use Rattle.poke_tool.specs.Saying.{IsModuleOf, MakeSays, Saying, Says, refused_status, saying_status, told_before, where_told}

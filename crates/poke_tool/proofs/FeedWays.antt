@@ -16,15 +16,15 @@ use Rattle.run_journal.specs.Spelling.{journal}
 use Rattle.script_text.specs.Script.{ScriptValue}
 use Rattle.switching.specs.State.{first}
 use Rattle.tracer_ops.specs.Meaning.{Meaning}
-use Rattle.poke_tool.specs.declared.fault.Fault.{Fault}
-use Rattle.poke_tool.specs.declared.fault.Fault.TheVariants.{Memory, Read, Refused, Words, Write}
-use Rattle.poke_tool.specs.declared.fault.Refusal.{Refusal}
-use Rattle.poke_tool.specs.declared.fault.Refusal.TheVariants.{Journal, Module as ModuleRefusal, Plan, Script}
-use Rattle.poke_tool.specs.declared.journal_fault.JournalRefused.TheVariants.{Line, TooLong}
+use Rattle.poke_faults.specs.declared.fault.Fault.{Fault}
+use Rattle.poke_faults.specs.declared.fault.Fault.TheVariants.{Memory, Read, Refused, Words, Write}
+use Rattle.poke_faults.specs.declared.fault.Refusal.{Refusal}
+use Rattle.poke_faults.specs.declared.fault.Refusal.TheVariants.{Journal, Module as ModuleRefusal, Plan, Script}
+use Rattle.poke_faults.specs.declared.journal_fault.JournalRefused.TheVariants.{Line, TooLong}
 use Rattle.poke_tool.specs.Check.{Accepts}
 use Rattle.poke_tool.specs.Feeding.{IsCutWith, ReplayFeeds, RunFeeds}
 use Rattle.poke_tool.specs.Headline.{AnyRun, HoldsInputs}
-use Rattle.poke_tool.specs.RunFault.{run_fault}
+use Rattle.poke_faults.specs.RunFault.{run_fault}
 use Rattle.poke_tool.specs.Runs.{ReadsInput}
 use Rattle.poke_tool.specs.Saying.{told_before}
 use Rattle.poke_tool.specs.Script.{AcceptsScript}

@@ -4,8 +4,6 @@ pub mod TwoFiles
 pub mod SameModules
 pub mod Sayings
 pub mod Endings
-pub mod PlanLines
-pub mod Plans
 pub mod TableLines
 pub mod OutcomeLines
 pub mod ScriptUpdates

@@ -27,8 +27,8 @@ use Rattle.switching.specs.State.{State, first}
 use Rattle.tracer_ops.specs.Meaning.{Meaning}
 use Rattle.switching.proofs.ChoiceLegal.{chosen_are_legal}
 use Rattle.switching.proofs.ChoiceRuns.{runs_are_there}
-use Rattle.poke_tool.specs.declared.fault.Fault.{Fault}
-use Rattle.poke_tool.specs.declared.fault.Fault.TheVariants.{Memory, Read, Refused, Words, Write}
+use Rattle.poke_faults.specs.declared.fault.Fault.{Fault}
+use Rattle.poke_faults.specs.declared.fault.Fault.TheVariants.{Memory, Read, Refused, Words, Write}
 use Rattle.poke_tool.specs.Check.{Accepts, RefusesAsModule, elf_of}
 use Rattle.poke_tool.specs.Command.{Run, file_words}
 use Rattle.poke_tool.specs.RunCuts.{CutsRun, StopsBetween, StopsEarly}

@@ -13,25 +13,25 @@ use Rattle.module_image.specs.declared.refused.Refused.{Refused}
 use Rattle.module_image.specs.declared.refused.Refused.TheVariants.{Table, NoMemory}
 use Rattle.module_image.specs.Refusals.{IsRefusal as IsImageRefusal, Passes as ImagePasses}
 use Rattle.module_image.specs.Module.{Module}
-use Rattle.poke_tool.specs.declared.fault.Refusal.{Refusal}
-use Rattle.poke_tool.specs.declared.fault.Refusal.TheVariants.{Module as ModuleRefusal, Plan as PlanRefusal, Script as ScriptRefusal, Journal as JournalRefusal}
-use Rattle.poke_tool.specs.declared.journal_fault.JournalRefused.TheVariants.{TooLong as LongJournal, Line as JournalLine}
-use Rattle.poke_tool.specs.declared.module_fault.ModuleRefused.{ModuleRefused}
-use Rattle.poke_tool.specs.declared.module_fault.ModuleRefused.TheVariants.{TooLong as LongModule, Elf, Image}
-use Rattle.poke_tool.specs.declared.plan_line.PlanRefused.{PlanRefused}
-use Rattle.poke_tool.specs.declared.plan_line.PlanRefused.TheVariants.{TooLong, Line, NoReach, Old}
-use Rattle.poke_tool.specs.declared.plan_line.Wish.{Wish}
+use Rattle.poke_faults.specs.declared.fault.Refusal.{Refusal}
+use Rattle.poke_faults.specs.declared.fault.Refusal.TheVariants.{Module as ModuleRefusal, Plan as PlanRefusal, Script as ScriptRefusal, Journal as JournalRefusal}
+use Rattle.poke_faults.specs.declared.journal_fault.JournalRefused.TheVariants.{TooLong as LongJournal, Line as JournalLine}
+use Rattle.poke_faults.specs.declared.module_fault.ModuleRefused.{ModuleRefused}
+use Rattle.poke_faults.specs.declared.module_fault.ModuleRefused.TheVariants.{TooLong as LongModule, Elf, Image}
+use Rattle.poke_plan.specs.declared.plan_line.PlanRefused.{PlanRefused}
+use Rattle.poke_plan.specs.declared.plan_line.PlanRefused.TheVariants.{TooLong, Line, NoReach, Old}
+use Rattle.poke_plan.specs.declared.plan_line.Wish.{Wish}
 use Rattle.script_text.specs.Script.{ScriptValue, script}
 use Rattle.script_text.proofs.SameNames.{IsAlike, scripts_alike}
-use Rattle.poke_tool.specs.declared.script_fault.ScriptRefused.{ScriptRefused}
-use Rattle.poke_tool.specs.declared.script_fault.ScriptRefused.TheVariants.{TooLong as LongScript, Line as RefusedLine}
+use Rattle.poke_faults.specs.declared.script_fault.ScriptRefused.{ScriptRefused}
+use Rattle.poke_faults.specs.declared.script_fault.ScriptRefused.TheVariants.{TooLong as LongScript, Line as RefusedLine}
 use Rattle.poke_tool.specs.Check.{Accepts, RefusesModule, elf_of}
 use Rattle.poke_tool.specs.Command as command
 use Rattle.poke_tool.specs.Command.{Row, file_words}
 use Rattle.poke_tool.specs.Module.{ModuleShows}
-use Rattle.poke_tool.specs.PlanLine.{PokeLine, IsWished}
+use Rattle.poke_plan.specs.PlanLine.{PokeLine, IsWished}
 use Rattle.poke_tool.specs.Endings.{MayBeCut}
-use Rattle.poke_tool.specs.Fault.{refusal_status}
+use Rattle.poke_faults.specs.Fault.{refusal_status}
 use Rattle.poke_tool.specs.Runs.{SaysSomething}
 use Rattle.poke_tool.specs.Script.{AcceptsScript, RefusesScript}
 use Rattle.poke_tool.specs.Saying.{Begins, CheckSays, FileSays, Holds, JournalBegins, JournalSays, LiveSays, ModuleSays, PlanSays, RunSays, Saying, ScriptSays, ShowSays, Says, WantsSays, WithJournal, WithScript, plan_saying, refused_status, refuses, refuses_line, saying_status, says_both, says_file, says_text, show_saying}

@@ -19,14 +19,14 @@ use Rattle.tracer_ops.specs.Meaning.{Meaning}
 use Rattle.script_text.specs.Script.{ScriptValue}
 use Rattle.module_image.specs.Module.{Module}
 use Rattle.switching.specs.State.{first}
-use Rattle.poke_tool.specs.declared.fault.Fault.{Fault}
-use Rattle.poke_tool.specs.declared.fault.Fault.TheVariants.{Memory, Read, Refused, Words, Write}
-use Rattle.poke_tool.specs.declared.fault.Refusal.TheVariants.{Journal}
-use Rattle.poke_tool.specs.declared.journal_fault.JournalRefused.TheVariants.{Line}
+use Rattle.poke_faults.specs.declared.fault.Fault.{Fault}
+use Rattle.poke_faults.specs.declared.fault.Fault.TheVariants.{Memory, Read, Refused, Words, Write}
+use Rattle.poke_faults.specs.declared.fault.Refusal.TheVariants.{Journal}
+use Rattle.poke_faults.specs.declared.journal_fault.JournalRefused.TheVariants.{Line}
 use Rattle.poke_tool.specs.Check.{Accepts, RefusesAsModule}
 use Rattle.poke_tool.specs.Command.{Replay, file_words}
 use Rattle.poke_tool.specs.Journal.{AcceptsJournal, RefusesAsJournal, journal_limit}
-use Rattle.poke_tool.specs.RunFault.{run_fault}
+use Rattle.poke_faults.specs.RunFault.{run_fault}
 use Rattle.poke_tool.specs.Runs.{Asks, Does, IsRead, MakesNothing, ReadsInput}
 use Rattle.poke_tool.specs.Saying.{Begins, Holds, JournalBegins, JournalSays, Saying, Says, WithJournal, WithScript, refuses, refuses_line, says_text, told_before}
 use Rattle.poke_tool.specs.Script.{AcceptsScript, RefusesAsScript}

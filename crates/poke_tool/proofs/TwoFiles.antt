@@ -5,9 +5,9 @@ use Rattle.poke_base.specs.declared.host.AskedBy.TheVariants.{Read as AskedRead}
 use Rattle.poke_base.specs.declared.host.WriteFail.{WriteFail}
 use Rattle.poke_base.specs.Host.{Files, Outside, Tells, Prints}
 use Rattle.poke_base.proofs.Outsides.{Tells-trans}
-use Rattle.poke_tool.specs.declared.fault.Fault.{Fault}
-use Rattle.poke_tool.specs.declared.fault.Fault.TheVariants.{Memory}
-use Rattle.poke_tool.specs.declared.fault.Refusal.{Refusal}
+use Rattle.poke_faults.specs.declared.fault.Fault.{Fault}
+use Rattle.poke_faults.specs.declared.fault.Fault.TheVariants.{Memory}
+use Rattle.poke_faults.specs.declared.fault.Refusal.{Refusal}
 use Rattle.poke_tool.specs.Command.{Row, file_words}
 use Rattle.poke_tool.specs.Runs.{AsksFirst, Does, IsRead, ReadsInput}
 use Rattle.poke_tool.specs.Saying.{Holds, Saying, Says, says_text, refuses, told_before}

@@ -7,10 +7,10 @@ use Rattle.poke_base.specs.declared.host.AskedBy.TheVariants.{Read as AskedRead,
 use Rattle.poke_base.specs.declared.host.WriteFail.{WriteFail}
 use Rattle.poke_base.specs.Host.{Outside, Tells, Prints, MakesFile, Appends, Rose, with_file}
 use Rattle.poke_base.proofs.Outsides.{Rose-later, Tells-no_more, Tells-same, Tells-trans}
-use Rattle.poke_tool.specs.declared.fault.Fault.{Fault}
-use Rattle.poke_tool.specs.declared.fault.Fault.TheVariants.{Words, Refused, Read, Write, Memory}
-use Rattle.poke_tool.specs.declared.fault.Refusal.{Refusal}
-use Rattle.poke_tool.specs.declared.fault.Refusal.TheVariants.{Module as ModuleRefusal, Script as ScriptRefusal}
+use Rattle.poke_faults.specs.declared.fault.Fault.{Fault}
+use Rattle.poke_faults.specs.declared.fault.Fault.TheVariants.{Words, Refused, Read, Write, Memory}
+use Rattle.poke_faults.specs.declared.fault.Refusal.{Refusal}
+use Rattle.poke_faults.specs.declared.fault.Refusal.TheVariants.{Module as ModuleRefusal, Script as ScriptRefusal}
 use Rattle.module_image.specs.Module.{Module}
 use Rattle.poke_tool.specs.Check.{RefusesAsModule}
 use Rattle.poke_tool.specs.Command.{Row, file_words}

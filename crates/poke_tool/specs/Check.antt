@@ -7,12 +7,12 @@ use Rattle.module_image.specs.declared.site.Site.{Site}
 use Rattle.module_image.specs.SiteLine.{site_lines}
 use Rattle.module_image.specs.Module.{Module, IsModule}
 use Rattle.module_image.specs.Refusals.{IsRefusal as IsImageRefusal}
-use Rattle.poke_tool.specs.declared.fault.Fault.{Fault}
-use Rattle.poke_tool.specs.declared.fault.Fault.TheVariants.{Refused as RefusedFault, Memory}
-use Rattle.poke_tool.specs.declared.fault.Refusal.{Refusal}
-use Rattle.poke_tool.specs.declared.fault.Refusal.TheVariants.{Module as ModuleRefusal}
-use Rattle.poke_tool.specs.declared.module_fault.ModuleRefused.{ModuleRefused}
-use Rattle.poke_tool.specs.declared.module_fault.ModuleRefused.TheVariants.{TooLong, Elf as NoElf, Image}
+use Rattle.poke_faults.specs.declared.fault.Fault.{Fault}
+use Rattle.poke_faults.specs.declared.fault.Fault.TheVariants.{Refused as RefusedFault, Memory}
+use Rattle.poke_faults.specs.declared.fault.Refusal.{Refusal}
+use Rattle.poke_faults.specs.declared.fault.Refusal.TheVariants.{Module as ModuleRefusal}
+use Rattle.poke_faults.specs.declared.module_fault.ModuleRefused.{ModuleRefused}
+use Rattle.poke_faults.specs.declared.module_fault.ModuleRefused.TheVariants.{TooLong, Elf as NoElf, Image}
 use Rattle.poke_tool.specs.Module.{module_limit}
 
 -- the sections and symbols that a file's bytes say

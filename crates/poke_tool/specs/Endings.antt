@@ -3,13 +3,13 @@ use Rattle.std.specs.Prelude.{◌≡◌, ◌⊎◌, ℕ, List, [], length, take,
 use Rattle.poke_base.specs.declared.host.AskedBy.{AskedBy}
 use Rattle.poke_base.specs.declared.host.WriteFail.{WriteFail}
 use Rattle.poke_base.specs.Host.{Outside, Rose, Tells, Adds, with_file, with_more}
-use Rattle.poke_tool.specs.declared.fault.Fault.{Fault}
-use Rattle.poke_tool.specs.declared.fault.Fault.TheVariants.{Refused}
-use Rattle.poke_tool.specs.declared.fault.Refusal.{Refusal}
-use Rattle.poke_tool.specs.declared.fault.Refusal.TheVariants.{Journal}
-use Rattle.poke_tool.specs.declared.journal_fault.JournalRefused.TheVariants.{Line as JournalLine}
+use Rattle.poke_faults.specs.declared.fault.Fault.{Fault}
+use Rattle.poke_faults.specs.declared.fault.Fault.TheVariants.{Refused}
+use Rattle.poke_faults.specs.declared.fault.Refusal.{Refusal}
+use Rattle.poke_faults.specs.declared.fault.Refusal.TheVariants.{Journal}
+use Rattle.poke_faults.specs.declared.journal_fault.JournalRefused.TheVariants.{Line as JournalLine}
 use Rattle.poke_tool.specs.Command.{Row, file_words}
-use Rattle.poke_tool.specs.Fault.{complaint_of, refusal_status, status_of}
+use Rattle.poke_faults.specs.Fault.{complaint_of, refusal_status, status_of}
 use Rattle.poke_tool.specs.Runs.{Cuts, DoesSaying, MakesNothing, MakesPrefix, SaysSomething}
 use Rattle.poke_tool.specs.Saying.{Begins, IsModuleOf, Saying, Says, saying_status, told_before}
 

@@ -10,10 +10,10 @@ use Rattle.run_journal.specs.ReaderState.{ReaderState}
 use Rattle.switching.specs.State.{first}
 use Rattle.tracer_ops.specs.Meaning.{Meaning}
 use Rattle.tracer_ops.specs.Tracers.{AreAs}
-use Rattle.poke_tool.specs.declared.fault.Fault.{Fault}
-use Rattle.poke_tool.specs.declared.fault.Fault.TheVariants.{Refused, Write}
-use Rattle.poke_tool.specs.declared.fault.Refusal.TheVariants.{Journal}
-use Rattle.poke_tool.specs.declared.journal_fault.JournalRefused.TheVariants.{Line}
+use Rattle.poke_faults.specs.declared.fault.Fault.{Fault}
+use Rattle.poke_faults.specs.declared.fault.Fault.TheVariants.{Refused, Write}
+use Rattle.poke_faults.specs.declared.fault.Refusal.TheVariants.{Journal}
+use Rattle.poke_faults.specs.declared.journal_fault.JournalRefused.TheVariants.{Line}
 use Rattle.poke_tool.specs.Command as command
 use Rattle.poke_tool.specs.Command.{Row}
 use Rattle.poke_tool.specs.Headline.{AnyRun, HoldsInputs, IsReadFrom, IsWritten, PrintsTrace}

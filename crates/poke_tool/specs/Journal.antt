@@ -1,9 +1,9 @@
 -- A journal file as it is read.
 use Rattle.std.specs.Prelude.{◌≡◌, ◌≤◌, ◌<◌, ℕ, List, length, Vec}
 use Rattle.std.specs.declared.alloc.Global.{Global}
-use Rattle.poke_tool.specs.declared.fault.Refusal.{Refusal}
-use Rattle.poke_tool.specs.declared.fault.Refusal.TheVariants.{Journal}
-use Rattle.poke_tool.specs.declared.journal_fault.JournalRefused.TheVariants.{TooLong}
+use Rattle.poke_faults.specs.declared.fault.Refusal.{Refusal}
+use Rattle.poke_faults.specs.declared.fault.Refusal.TheVariants.{Journal}
+use Rattle.poke_faults.specs.declared.journal_fault.JournalRefused.TheVariants.{TooLong}
 
 -- how many bytes a journal file may have
 abbrev pub journal_limit : ℕ

@@ -11,8 +11,8 @@ use Rattle.site_tables.specs.declared.entries.TableKind.TheVariants.{Jump, Call,
 use Rattle.site_tables.specs.Entry.{entry_size, jump_in, call_in, trace_in}
 use Rattle.site_tables.specs.Found.{IsBadTable, IsFirstBadTable, table_len}
 pub use Rattle.site_tables.specs.Tables.{table_in}
-use Rattle.poke_tool.specs.declared.module_fault.ModuleRefused.{ModuleRefused}
-use Rattle.poke_tool.specs.declared.module_fault.ModuleRefused.TheVariants.{TooLong, Elf, Image}
+use Rattle.poke_faults.specs.declared.module_fault.ModuleRefused.{ModuleRefused}
+use Rattle.poke_faults.specs.declared.module_fault.ModuleRefused.TheVariants.{TooLong, Elf, Image}
 use Rattle.module_image.specs.declared.refused.Refused.TheVariants.{Table}
 
 -- how many bytes a module file may have

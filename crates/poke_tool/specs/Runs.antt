@@ -5,12 +5,12 @@ use Rattle.poke_base.specs.declared.host.AskedBy.TheVariants.{Read as AskedRead,
 use Rattle.poke_base.specs.declared.host.WriteFail.{WriteFail}
 use Rattle.poke_base.specs.Host.{Outside, Rose, Tells, with_more, with_file, Complains}
 use Rattle.poke_base.specs.Text.{IsPrefix}
-use Rattle.poke_tool.specs.declared.fault.Fault.{Fault}
-use Rattle.poke_tool.specs.declared.fault.Fault.TheVariants.{Words, Refused, Read, Write, Memory}
-use Rattle.poke_tool.specs.declared.fault.Refusal.{Refusal}
+use Rattle.poke_faults.specs.declared.fault.Fault.{Fault}
+use Rattle.poke_faults.specs.declared.fault.Fault.TheVariants.{Words, Refused, Read, Write, Memory}
+use Rattle.poke_faults.specs.declared.fault.Refusal.{Refusal}
 use Rattle.poke_tool.specs.Command as command
 use Rattle.poke_tool.specs.Command.{Row, row_of, file_words}
-use Rattle.poke_tool.specs.Fault.{status_of, complaint_of}
+use Rattle.poke_faults.specs.Fault.{status_of, complaint_of}
 use Rattle.poke_tool.specs.RunCuts.{CutsRun}
 use Rattle.poke_tool.specs.Saying.{Begins, Holds, Saying, Says, told_before}
 

@@ -19,23 +19,23 @@ use Rattle.run_journal.specs.ReaderState.{ReaderState}
 use Rattle.run_journal.specs.Spelling.{journal}
 use Rattle.switching.specs.State.{first}
 use Rattle.tracer_ops.specs.Meaning.{Meaning}
-use Rattle.poke_tool.specs.declared.fault.Refusal.{Refusal}
-use Rattle.poke_tool.specs.declared.fault.Refusal.TheVariants.{Module as ModuleRefusal, Plan as PlanRefusal, Script as ScriptRefusal, Journal as JournalRefusal}
-use Rattle.poke_tool.specs.declared.journal_fault.JournalRefused.TheVariants.{TooLong as LongJournal, Line as JournalLine}
-use Rattle.poke_tool.specs.declared.module_fault.ModuleRefused.{ModuleRefused}
-use Rattle.poke_tool.specs.declared.plan_line.PlanRefused.{PlanRefused}
+use Rattle.poke_faults.specs.declared.fault.Refusal.{Refusal}
+use Rattle.poke_faults.specs.declared.fault.Refusal.TheVariants.{Module as ModuleRefusal, Plan as PlanRefusal, Script as ScriptRefusal, Journal as JournalRefusal}
+use Rattle.poke_faults.specs.declared.journal_fault.JournalRefused.TheVariants.{TooLong as LongJournal, Line as JournalLine}
+use Rattle.poke_faults.specs.declared.module_fault.ModuleRefused.{ModuleRefused}
+use Rattle.poke_plan.specs.declared.plan_line.PlanRefused.{PlanRefused}
 use Rattle.script_text.specs.Script.{ScriptValue}
-use Rattle.poke_tool.specs.declared.script_fault.ScriptRefused.{ScriptRefused}
+use Rattle.poke_faults.specs.declared.script_fault.ScriptRefused.{ScriptRefused}
 use Rattle.poke_tool.specs.BenchText.{bench_text}
 use Rattle.poke_tool.specs.Check.{Accepts, RefusesModule, accepted_text}
 use Rattle.poke_tool.specs.Command as command
 use Rattle.poke_tool.specs.Command.{Row}
-use Rattle.poke_tool.specs.Fault.{refusal_status}
+use Rattle.poke_faults.specs.Fault.{refusal_status}
 use Rattle.poke_tool.specs.Journal.{journal_limit}
 use Rattle.poke_tool.specs.Live.{IsLiveText}
 use Rattle.poke_tool.specs.Module.{ModuleShows}
-use Rattle.poke_tool.specs.Plan.{poke_text}
-use Rattle.poke_tool.specs.PlanLine.{PokeLine}
+use Rattle.poke_plan.specs.Plan.{poke_text}
+use Rattle.poke_plan.specs.PlanLine.{PokeLine}
 use Rattle.poke_tool.specs.Script.{AcceptsScript, RefusesScript}
 use Rattle.poke_tool.specs.Wants.{IsWantsText}
 

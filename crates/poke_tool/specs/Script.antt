@@ -3,12 +3,12 @@ use Rattle.std.specs.Prelude.{◌≡◌, ◌<◌, ◌≤◌, ⊤, ℕ, List, len
 use Rattle.module_image.specs.Module.{Module}
 use Rattle.script_text.specs.Laws.{IsScriptOf}
 use Rattle.script_text.specs.Script.{ScriptValue, script}
-use Rattle.poke_tool.specs.declared.fault.Fault.{Fault}
-use Rattle.poke_tool.specs.declared.fault.Fault.TheVariants.{Refused as RefusedFault, Memory}
-use Rattle.poke_tool.specs.declared.fault.Refusal.{Refusal}
-use Rattle.poke_tool.specs.declared.fault.Refusal.TheVariants.{Script as ScriptRefusal}
-use Rattle.poke_tool.specs.declared.script_fault.ScriptRefused.{ScriptRefused}
-use Rattle.poke_tool.specs.declared.script_fault.ScriptRefused.TheVariants.{TooLong, Line}
+use Rattle.poke_faults.specs.declared.fault.Fault.{Fault}
+use Rattle.poke_faults.specs.declared.fault.Fault.TheVariants.{Refused as RefusedFault, Memory}
+use Rattle.poke_faults.specs.declared.fault.Refusal.{Refusal}
+use Rattle.poke_faults.specs.declared.fault.Refusal.TheVariants.{Script as ScriptRefusal}
+use Rattle.poke_faults.specs.declared.script_fault.ScriptRefused.{ScriptRefused}
+use Rattle.poke_faults.specs.declared.script_fault.ScriptRefused.TheVariants.{TooLong, Line}
 
 -- how many bytes a script file may have
 abbrev pub script_limit : ℕ

@@ -9,9 +9,9 @@ use Rattle.recorded_run.specs.Replaying.{ReplayDoes}
 use Rattle.recorded_run.specs.Running.{RunDoes}
 use Rattle.script_text.specs.Script.{ScriptValue}
 use Rattle.tracer_ops.specs.Meaning.{Meaning}
-use Rattle.poke_tool.specs.declared.fault.Fault.{Fault}
-use Rattle.poke_tool.specs.declared.fault.Fault.TheVariants.{Memory, Write}
-use Rattle.poke_tool.specs.RunFault.{run_fault}
+use Rattle.poke_faults.specs.declared.fault.Fault.{Fault}
+use Rattle.poke_faults.specs.declared.fault.Fault.TheVariants.{Memory, Write}
+use Rattle.poke_faults.specs.RunFault.{run_fault}
 
 -- the journal was made, and the script ran
 pub record RunsScript (m : Module) (script : ScriptValue) (journal_file : List ℕ) (seed : ℕ) (tracers left : List Meaning) (old new : Outside) (result : Result (Unit {0}) RunFault) : Type 0 where

@@ -3,7 +3,7 @@ use Rattle.std.specs.Prelude.{ℕ, List, ◌++◌, Result, Ok, Err}
 use Rattle.site_tables.specs.declared.entries.TableKind.TheVariants.{Jump, Call, Trace}
 use Rattle.site_tables.specs.declared.tables.Tables.{Tables}
 use Rattle.site_tables.specs.Found.{section_in}
-use Rattle.poke_tool.specs.declared.module_fault.ModuleRefused.{ModuleRefused}
+use Rattle.poke_faults.specs.declared.module_fault.ModuleRefused.{ModuleRefused}
 use Rattle.poke_tool.specs.Module.{table_text}
 
 -- the lines of all tables

@@ -6,9 +6,9 @@ ghost use Rattle.poke_tool.specs.BenchText.{bench_line, bench_text, count_line, 
 ghost use Rattle.poke_tool.specs.Command.{Bench as BenchRow};
 ghost use Rattle.poke_tool.specs.Runs.{Does};
 
-use crate::fault::Fault;
 use bench_run::Counts;
 use poke_base::{Host, Line, WriteFail, put_dec, put_text};
+use poke_faults::Fault;
 use std::alloc::Global;
 
 /// Prints the counts of the run of the module with n blocks, 10 to 1,000, by a fixed script and the words of a seed. No

@@ -5,11 +5,11 @@ ghost use Rattle.poke_tool.specs.Check.{accepted_text, text_line};
 ghost use Rattle.poke_tool.specs.Command.{Check as CheckRow};
 ghost use Rattle.poke_tool.specs.Runs.{Does};
 
-use crate::fault::Fault;
 use crate::module_file::read_module;
 use crate::site_lines::print_sites;
 use module_image::Image;
 use poke_base::{Host, Line, WriteFail, put_dec, put_hex, put_text};
+use poke_faults::Fault;
 use std::alloc::Global;
 
 /// Prints the text and the sites of a module, a line each, and that it is accepted. The module is

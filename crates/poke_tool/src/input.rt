@@ -2,8 +2,8 @@
 ghost use Rattle.std.specs.Prelude.{◌≡◌, ◌≤◌, ◌<◌, length};
 ghost use Rattle.poke_tool.specs.Runs.{ReadsInput};
 
-use crate::fault::{Fault, Refusal};
 use poke_base::{Host, ReadFail};
+use poke_faults::{Fault, Refusal};
 use std::alloc::Global;
 
 /// The bytes of a file of at most `limit` bytes.

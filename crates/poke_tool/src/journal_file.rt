@@ -2,10 +2,9 @@
 ghost use Rattle.poke_tool.specs.Journal.{AcceptsJournal, RefusesAsJournal};
 ghost use Rattle.poke_tool.specs.Runs.{ReadsInput};
 
-use crate::fault::{Fault, Refusal};
 use crate::input::read_input;
-use crate::journal_fault::{JOURNAL_LIMIT, JournalRefused};
 use poke_base::Host;
+use poke_faults::{Fault, JOURNAL_LIMIT, JournalRefused, Refusal};
 use std::alloc::Global;
 
 /// Reads a file of at most as many bytes as a journal may have.

@@ -12,7 +12,6 @@ ghost use Rattle.script_text.specs.Laws.{IsScriptOf};
 ghost use Rattle.script_text.specs.Script.{most_updates};
 
 use crate::dry_run::DryRun;
-use crate::fault::Fault;
 use crate::module_file::read_module;
 use crate::script_file::read_script;
 use crate::wants::print_outcomes;
@@ -21,6 +20,7 @@ use live_trace::laws::updated_sites_are_wanted;
 use live_trace::{print_live_sites, print_walks};
 use module_image::Image;
 use poke_base::{Host, WriteFail};
+use poke_faults::Fault;
 use script_text::Script;
 use std::thread::Threads;
 

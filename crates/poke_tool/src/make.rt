@@ -4,9 +4,9 @@ ghost use Rattle.poke_tool.specs.Command.{Make as MakeRow};
 ghost use Rattle.poke_tool.specs.Runs.{Does};
 ghost use Rattle.poke_tool.specs.Saying.{IsModuleOf};
 
-use crate::fault::Fault;
 use elf_build::{generated, write};
 use poke_base::{Host, NoMemory};
+use poke_faults::Fault;
 use std::alloc::Global;
 
 /// Makes a file with the module of n blocks, 10 to 1,000. The whole file is built in memory first,

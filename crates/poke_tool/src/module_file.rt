@@ -3,12 +3,11 @@ ghost use Rattle.std.specs.Prelude.{◌≤◌, IfErr, IfOk, length};
 ghost use Rattle.poke_tool.specs.Check.{Accepts, RefusesAsModule, RefusesFile};
 ghost use Rattle.poke_tool.specs.Runs.{ReadsInput};
 
-use crate::fault::{Fault, Refusal};
 use crate::input::read_input;
-use crate::module_fault::{MODULE_LIMIT, ModuleRefused};
 use elf_module::ElfFile;
 use module_image::{Image, Refused};
 use poke_base::Host;
+use poke_faults::{Fault, MODULE_LIMIT, ModuleRefused, Refusal};
 use std::alloc::Global;
 
 /// Reads a file as a module.

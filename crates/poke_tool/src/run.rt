@@ -8,11 +8,11 @@ ghost use Rattle.script_runner.specs.World.{StandsFor};
 ghost use Rattle.script_text.specs.Laws.{IsScriptOf};
 ghost use Rattle.switching.specs.State.{first};
 
-use crate::fault::Fault;
 use crate::module_file::read_module;
 use crate::script_file::read_script;
 use module_image::Image;
 use poke_base::Host;
+use poke_faults::Fault;
 use script_runner::{Words, World};
 use script_text::Script;
 use std::alloc::Global;

@@ -4,11 +4,10 @@ ghost use Rattle.poke_tool.specs.Runs.{ReadsInput};
 ghost use Rattle.poke_tool.specs.Script.{AcceptsScript, RefusesAsScript, RefusesText};
 ghost use Rattle.script_text.specs.Laws.{IsScriptOf};
 
-use crate::fault::{Fault, Refusal};
 use crate::input::read_input;
-use crate::script_fault::{SCRIPT_LIMIT, ScriptRefused};
 use module_image::Image;
 use poke_base::Host;
+use poke_faults::{Fault, Refusal, SCRIPT_LIMIT, ScriptRefused};
 use script_text::{Script, ScriptError};
 use std::alloc::Global;
 

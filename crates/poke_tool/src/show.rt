@@ -6,13 +6,12 @@ ghost use Rattle.poke_tool.specs.Module.{ModuleShows};
 ghost use Rattle.poke_tool.specs.Runs.{Does};
 ghost use Rattle.poke_tool.specs.Tables.{text_of};
 
-use crate::fault::{Fault, Refusal};
 use crate::input::read_input;
-use crate::module_fault::{MODULE_LIMIT, ModuleRefused};
 use crate::print_table::print_tables;
 use elf_module::ElfFile;
 use module_image::Refused;
 use poke_base::Host;
+use poke_faults::{Fault, MODULE_LIMIT, ModuleRefused, Refusal};
 use site_tables::{Tables, find_tables};
 use std::alloc::Global;
 

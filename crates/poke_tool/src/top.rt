@@ -11,7 +11,6 @@ ghost use Rattle.recorded_run.specs.Headline.{EndsAsCommands, HoldsWhatIsWanted,
 use crate::bench::bench;
 use crate::check::check;
 use crate::command::Command;
-use crate::fault::Fault;
 use crate::live::live;
 use crate::make::make;
 use crate::plan::plan;
@@ -21,6 +20,7 @@ use crate::show::show;
 use crate::wants::wants;
 use live_engine::Gate;
 use poke_base::Host;
+use poke_faults::Fault;
 use std::thread::Threads;
 use tracer_ops::Tracer;
 

@@ -9,13 +9,13 @@ ghost use Rattle.poke_tool.specs.Wants.{outcome_lines};
 ghost use Rattle.script_text.specs.Script.{most_updates};
 
 use crate::dry_run::DryRun;
-use crate::fault::Fault;
 use crate::module_file::read_module;
 use crate::script_file::read_script;
 use crate::site_lines::print_sites;
 use key_state::{Outcome, outcome_line};
 use module_image::Image;
 use poke_base::{Host, WriteFail};
+use poke_faults::Fault;
 use std::alloc::Global;
 
 /// Prints how each update of a script ends, a line each, and then what the sites of its module hold after all of them, a

@@ -1,32 +1,27 @@
 //! `bench`: the counts of a run.
 
-use crate::frame::ends;
-use live_engine::OpenGate;
+use crate::frame::status_of;
 use poke_base::MemoryHost;
-use poke_tool::textpoke;
+use std::process::Abort;
 use std::test::Fail;
+use std::thread::Threads;
+
+/// What a bench of ten blocks prints.
+fn benched<R: Abort + AllocGlobal + Threads + Sync>(rt: &R) -> Result<Vec<u8>, Fail> {
+    let mut host = MemoryHost::new(rt.alloc());
+    let list = ["bench", "10", "1"];
+    let status = status_of(rt, &mut host, &list, &mut Vec::new(rt.alloc()))?;
+    assert_eq!(rt; status, 0);
+    assert!(rt; host.complained().is_empty());
+    Ok(Vec::from_slice(rt.alloc(), host.printed())?)
+}
 
 #[test]
 fn a_bench_is_counted(rt: HostRuntime) -> Result<(), Fail> {
     let begins = b"bench 10 1\nupdates 7\nwrites 78\nrequests 21\ntakes 42\npasses ";
-    let list = [
-        String::from_str(rt.alloc(), "bench")?,
-        String::from_str(rt.alloc(), "10")?,
-        String::from_str(rt.alloc(), "1")?,
-    ];
-    let mut host = MemoryHost::new(rt.alloc());
-    assert_eq!(rt;
-        textpoke(&rt, &list, &mut host, &mut Vec::new(rt.alloc()), &OpenGate),
-        0
-    );
-    assert!(rt; host.printed().starts_with(begins));
+    let printed = benched(&rt)?;
+    assert!(rt; printed.starts_with(begins));
     // (the same at each run)
-    let mut again = MemoryHost::new(rt.alloc());
-    ends(
-        &rt,
-        "again",
-        &mut again,
-        &["bench", "10", "1"],
-        (0, host.printed(), b""),
-    )
+    assert_eq!(rt; benched(&rt)?, printed);
+    Ok(())
 }

@@ -1,7 +1,8 @@
 //! `live`: what is printed, and that its workers run beside one another and share their words.
 
-use crate::frame::{Ended, host_with, words};
+use crate::frame::{Ended, Run, put_script, runs, words};
 use live_engine::{Gate, OpenGate};
+use poke_base::MemoryHost;
 use poke_tool::textpoke;
 use small_module::{BRANCH, SPIN, Small};
 use std::hint::spin_loop;
@@ -20,14 +21,39 @@ fn lives<R: Abort + AllocGlobal + Threads + Sync, G: Gate + Sync>(
     gate: &G,
     ended: Ended<'_>,
 ) -> Result<(), Fail> {
+    let mut host = MemoryHost::new(rt.alloc());
+    put_script(rt, &mut host, small, script)?;
     let (status, printed, reported) = ended;
-    let mut host = host_with(rt, small, script)?;
-    let list = words(rt.alloc(), &["live", "m", "s", turns, seed])?;
-    let answer = textpoke(rt, &list, &mut host, &mut Vec::new(rt.alloc()), gate);
+    let answer = status_of(rt, &mut host, turns, seed, gate)?;
     assert_eq!(rt; host.complained(), reported, "{turns} {seed}");
     assert_eq!(rt; host.printed(), printed, "{turns} {seed}");
     assert_eq!(rt; answer, status, "{turns} {seed}");
     Ok(())
+}
+
+/// Runs the script of a host with a gate, for so many turns by a seed, and answers the status.
+fn status_of<R: AllocGlobal + Threads + Sync, G: Gate + Sync>(
+    rt: &R,
+    host: &mut MemoryHost,
+    turns: &str,
+    seed: &str,
+    gate: &G,
+) -> Result<u8, Fail> {
+    let list = words(rt.alloc(), &["live", "m", "s", turns, seed])?;
+    Ok(textpoke(rt, &list, host, &mut Vec::new(rt.alloc()), gate))
+}
+
+/// What a script of the loop prints with a gate, for so many turns by the seed 1.
+fn printed_of<R: Abort + AllocGlobal + Threads + Sync, G: Gate + Sync>(
+    rt: &R,
+    script: &[u8],
+    turns: &str,
+    gate: &G,
+) -> Result<Vec<u8>, Fail> {
+    let mut host = MemoryHost::new(rt.alloc());
+    put_script(rt, &mut host, &SPIN, script)?;
+    assert_eq!(rt; status_of(rt, &mut host, turns, "1", gate)?, 0);
+    Ok(Vec::from_slice(rt.alloc(), host.printed())?)
 }
 
 /// An update of the branch, beside a processor that does one instruction.
@@ -124,13 +150,17 @@ fn a_write_that_fails_leaves_a_prefix(rt: HostRuntime) -> Result<(), Fail> {
         (6, 0, ONE_TURN_TEXT, b""),
     ];
     for (failing, status, printed, reported) in rows {
-        let mut host = host_with(&rt, &BRANCH, ONE_TURN)?;
-        host.fail_at(failing)?;
-        let list = words(rt.alloc(), &["live", "m", "s", "1", "7"])?;
-        let answer = textpoke(&rt, &list, &mut host, &mut Vec::new(rt.alloc()), &OpenGate);
-        assert_eq!(rt; answer, status, "call {failing}");
-        assert_eq!(rt; host.printed(), printed, "call {failing}");
-        assert_eq!(rt; host.complained(), reported, "call {failing}");
+        let run = Run {
+            name: "a call fails",
+            small: BRANCH,
+            script: ONE_TURN,
+            words: &["live", "m", "s", "1", "7"],
+            before: None,
+            failing: Some(failing),
+            ended: (status, printed, reported),
+            after: None,
+        };
+        runs(&rt, &run)?;
     }
     Ok(())
 }
@@ -256,45 +286,44 @@ fn all_old<R: AllocGlobal>(rt: &R) -> Result<Vec<u8>, Fail> {
 
 #[test]
 fn updates_reach_a_running_processor(rt: HostRuntime) -> Result<(), Fail> {
-    let abreast = Abreast(Begun::none());
-    let mut host = host_with(&rt, &SPIN, SPINNING)?;
-    let list = words(rt.alloc(), &["live", "m", "s", "400", "1"])?;
-    let answer = textpoke(&rt, &list, &mut host, &mut Vec::new(rt.alloc()), &abreast);
-    assert_eq!(rt; answer, 0);
+    let printed = printed_of(&rt, SPINNING, "400", &Abreast(Begun::none()))?;
     let ending = b"\n0 401000 jmp 401005 v 1 g 3\nsite 401000 jump e900000000\n";
-    assert!(rt; host.printed().ends_with(ending));
+    assert!(rt; printed.ends_with(ending));
+    Ok(())
+}
 
+#[test]
+fn updates_may_come_after_the_last_turn(rt: HostRuntime) -> Result<(), Fail> {
     let behind = Behind {
         begun: Begun::none(),
         last: 400,
     };
-    let old = all_old(&rt)?;
-    lives(&rt, &SPIN, SPINNING, "400", "1", &behind, (0, &old, b""))?;
+    let printed = printed_of(&rt, SPINNING, "400", &behind)?;
+    assert_eq!(rt; printed, all_old(&rt)?);
     assert_eq!(rt; behind.begun.missed(), 0);
     Ok(())
+}
+
+/// Whether a line isn't of processor 15, or is a pass of its whole old or its whole new form.
+fn is_whole(line: &[u8]) -> bool {
+    let Some(form) = line.strip_prefix(b"15 401000 ") else {
+        return true;
+    };
+    let old = form.starts_with(b"nop v 0 g ") || form.starts_with(b"nop v 2 g ");
+    let new = form.starts_with(b"jmp 401005 v 1 g ") || form.starts_with(b"jmp 401005 v 3 g ");
+    old || new
 }
 
 #[test]
 fn sixteen_processors_run_at_once(rt: HostRuntime) -> Result<(), Fail> {
     let script: &[u8] =
         b"cpu f\ncpu f\ncpu f\ncpu f\ncpu f\ncpu f\ncpu f\ncpu f\ncpu f\ncpu f\ncpu f\ncpu f\ncpu f\ncpu f\ncpu f\ncpu f\ninc k\ndec k\ninc k\n";
-    let mut host = host_with(&rt, &SPIN, script)?;
-    let list = words(rt.alloc(), &["live", "m", "s", "300", "1"])?;
-    let answer = textpoke(&rt, &list, &mut host, &mut Vec::new(rt.alloc()), &OpenGate);
-    assert_eq!(rt; answer, 0);
-    let printed = host.printed();
-    assert!(rt;
-        printed.starts_with(b"update 1 done 1\nupdate 2 done 1\nupdate 3 done 1\n0 401000 ")
-    );
+    let printed = printed_of(&rt, script, "300", &OpenGate)?;
+    let begins = b"update 1 done 1\nupdate 2 done 1\nupdate 3 done 1\n0 401000 ";
+    assert!(rt; printed.starts_with(begins));
     assert!(rt; printed.ends_with(b"\nsite 401000 jump e900000000\n"));
     for line in printed.split(|byte| *byte == b'\n') {
-        if line.starts_with(b"15 401000 ") {
-            let form = &line[10..];
-            let old = form.starts_with(b"nop v 0 g ") || form.starts_with(b"nop v 2 g ");
-            let new = form.starts_with(b"jmp 401005 v 1 g ")
-                || form.starts_with(b"jmp 401005 v 3 g ");
-            assert!(rt; old || new);
-        }
+        assert!(rt; is_whole(line));
     }
     Ok(())
 }

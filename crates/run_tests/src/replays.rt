@@ -1,6 +1,6 @@
 //! `replay`: the trace of a journal, or its first line that can't be.
 
-use crate::frame::{Ended, ends, host_with};
+use crate::frame::{Ended, Run, runs};
 use small_module::{BRANCH, CALL, LOOP, Small, TAIL};
 use std::process::Abort;
 use std::test::Fail;
@@ -15,9 +15,17 @@ fn replays<R: Abort + AllocGlobal + Threads + Sync>(
     journal: &[u8],
     ended: Ended<'_>,
 ) -> Result<(), Fail> {
-    let mut host = host_with(rt, small, script)?;
-    host.put("j", journal)?;
-    ends(rt, name, &mut host, &["replay", "m", "s", "j"], ended)
+    let run = Run {
+        name,
+        small: *small,
+        script,
+        words: &["replay", "m", "s", "j"],
+        before: Some(journal),
+        failing: None,
+        ended,
+        after: Some(journal),
+    };
+    runs(rt, &run)
 }
 
 /// A switch is turned while a processor stands at it.

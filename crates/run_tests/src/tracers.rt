@@ -2,7 +2,8 @@
 
 use crate::frame::status_of;
 use crate::modules::traced_300;
-use poke_base::MemoryHost;
+use poke_base::{MemoryHost, NoMemory};
+use std::alloc::Global;
 use std::process::Abort;
 use std::test::Fail;
 use std::thread::Threads;
@@ -70,13 +71,28 @@ fn replays<R: Abort + AllocGlobal + Threads + Sync>(
     sites: usize,
 ) -> Result<(), Fail> {
     let mut host = MemoryHost::new(rt.alloc());
-    host.put("m", &traced_300(rt.alloc())?)?;
-    host.put("s", script)?;
-    host.put("j", journal)?;
+    put_files(rt, &mut host, script, journal)?;
     let words = ["replay", "m", "s", "j"];
     assert_eq!(rt; status_of(rt, &mut host, &words, tracers)?, status);
     assert_eq!(rt; host.complained(), reported);
-    let printed = host.printed();
+    prints(rt, host.printed(), first, last, sites);
+    Ok(())
+}
+
+/// Gives a host the module with 300 traced functions, a script and a journal.
+fn put_files<R: AllocGlobal>(
+    rt: &R,
+    host: &mut MemoryHost,
+    script: &[u8],
+    journal: &[u8],
+) -> Result<(), NoMemory> {
+    host.put("m", &traced_300(rt.alloc())?)?;
+    host.put("s", script)?;
+    host.put("j", journal)
+}
+
+/// Asserts what a text begins with, with what it ends, and how many lines of sites it has.
+fn prints<R: Abort>(rt: &R, printed: &[u8], first: &[u8], last: &[u8], sites: usize) {
     assert!(rt; printed.starts_with(first));
     assert!(rt; printed.ends_with(last));
     let lines = printed.split(|byte| *byte == b'\n');
@@ -84,14 +100,19 @@ fn replays<R: Abort + AllocGlobal + Threads + Sync>(
         lines.filter(|line| line.starts_with(b"site ")).count(),
         sites
     );
-    Ok(())
+}
+
+/// A tracer that counts calls, and one that keeps the last sites.
+fn both(alloc: Global) -> Result<Vec<Box<dyn Tracer>>, NoMemory> {
+    let mut tracers: Vec<Box<dyn Tracer>> = Vec::new(alloc);
+    tracers.push(Box::new(alloc, Count::new())?)?;
+    tracers.push(Box::new(alloc, LastSites::new())?)?;
+    Ok(tracers)
 }
 
 #[test]
 fn tracers_are_fed_and_dropped(rt: HostRuntime) -> Result<(), Fail> {
-    let mut tracers: Vec<Box<dyn Tracer>> = Vec::new(rt.alloc());
-    tracers.push(Box::new(rt.alloc(), Count::new())?)?;
-    tracers.push(Box::new(rt.alloc(), LastSites::new())?)?;
+    let mut tracers = both(rt.alloc())?;
     replays(&rt, ONE, &mut tracers, DONE, ONE_TEXT, 300)?;
     assert_eq!(rt; tracers.len(), 1);
     assert_eq!(rt; tracers[0].total(), 1);
@@ -100,18 +121,14 @@ fn tracers_are_fed_and_dropped(rt: HostRuntime) -> Result<(), Fail> {
 
 #[test]
 fn a_dropped_tracer_is_told_no_more(rt: HostRuntime) -> Result<(), Fail> {
-    let mut tracers: Vec<Box<dyn Tracer>> = Vec::new(rt.alloc());
-    tracers.push(Box::new(rt.alloc(), Count::new())?)?;
-    tracers.push(Box::new(rt.alloc(), LastSites::new())?)?;
+    let mut tracers = both(rt.alloc())?;
     let ending: &[u8] = b"dropped 0 total 1\ntracer 0 total 2\n";
     replays(&rt, TWO, &mut tracers, DONE, (TWO_TEXT, ending), 300)
 }
 
 #[test]
 fn a_refused_journal_has_fed_the_events_before(rt: HostRuntime) -> Result<(), Fail> {
-    let mut tracers: Vec<Box<dyn Tracer>> = Vec::new(rt.alloc());
-    tracers.push(Box::new(rt.alloc(), Count::new())?)?;
-    tracers.push(Box::new(rt.alloc(), LastSites::new())?)?;
+    let mut tracers = both(rt.alloc())?;
     let refused: Answer<'_> = (4, b"textpoke: journal: line 21\n");
     let text = (REFUSED_TEXT, REFUSED_TEXT);
     replays(&rt, (TWO.0, REFUSED), &mut tracers, refused, text, 0)?;
@@ -146,34 +163,46 @@ fn three_hundred_tracers_close_up(rt: HostRuntime) -> Result<(), Fail> {
     Ok(())
 }
 
+/// Runs a script by a seed and replays its journal, and asserts that both print the same.
+fn repeats<R: Abort + AllocGlobal + Threads + Sync>(
+    rt: &R,
+    host: &mut MemoryHost,
+    seed: &str,
+    told: &mut Vec<Box<dyn Tracer>>,
+    again: &mut Vec<Box<dyn Tracer>>,
+) -> Result<(), Fail> {
+    put_files(rt, host, TWO.0, b"")?;
+    assert_eq!(rt;
+        status_of(rt, host, &["run", "m", "s", "j", seed], told)?,
+        0
+    );
+    let printed = Vec::from_slice(rt.alloc(), host.printed())?;
+    assert_eq!(rt; status_of(rt, host, &["replay", "m", "s", "j"], again)?, 0);
+    assert_eq!(rt;
+        host.printed().strip_prefix(printed.as_slice()),
+        Some(printed.as_slice()),
+        "{seed}"
+    );
+    Ok(())
+}
+
+/// How many calls a tracer has counted that is told of a run by a seed, as is one that is told of its replay.
+fn counted<R: Abort + AllocGlobal + Threads + Sync>(rt: &R, seed: &str) -> Result<u64, Fail> {
+    let mut host = MemoryHost::new(rt.alloc());
+    let mut told = both(rt.alloc())?;
+    let mut again = both(rt.alloc())?;
+    repeats(rt, &mut host, seed, &mut told, &mut again)?;
+    assert_eq!(rt; told.len(), 1, "{seed}");
+    assert_eq!(rt; again.len(), 1, "{seed}");
+    assert_eq!(rt; told[0].total(), again[0].total(), "{seed}");
+    Ok(told[0].total())
+}
+
 #[test]
 fn a_run_tells_what_its_replay_tells(rt: HostRuntime) -> Result<(), Fail> {
-    let alloc = rt.alloc();
     let mut hits: u64 = 0;
     for seed in ["1", "2", "3", "4", "5", "6"] {
-        let mut host = MemoryHost::new(alloc);
-        host.put("m", &traced_300(alloc)?)?;
-        host.put("s", TWO.0)?;
-        let mut told: Vec<Box<dyn Tracer>> = Vec::new(alloc);
-        told.push(Box::new(alloc, Count::new())?)?;
-        told.push(Box::new(alloc, LastSites::new())?)?;
-        let run = ["run", "m", "s", "j", seed];
-        assert_eq!(rt; status_of(&rt, &mut host, &run, &mut told)?, 0);
-        let printed = Vec::from_slice(alloc, host.printed())?;
-        let mut again: Vec<Box<dyn Tracer>> = Vec::new(alloc);
-        again.push(Box::new(alloc, Count::new())?)?;
-        again.push(Box::new(alloc, LastSites::new())?)?;
-        let replay = ["replay", "m", "s", "j"];
-        assert_eq!(rt; status_of(&rt, &mut host, &replay, &mut again)?, 0);
-        assert_eq!(rt;
-            host.printed().strip_prefix(printed.as_slice()),
-            Some(printed.as_slice()),
-            "{seed}"
-        );
-        assert_eq!(rt; told.len(), 1, "{seed}");
-        assert_eq!(rt; again.len(), 1, "{seed}");
-        assert_eq!(rt; told[0].total(), again[0].total(), "{seed}");
-        hits = hits.saturating_add(told[0].total());
+        hits = hits.saturating_add(counted(&rt, seed)?);
     }
     // (which processors pass the site before it is traced depends on the seeds)
     assert_eq!(rt; hits, 4);

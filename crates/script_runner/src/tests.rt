@@ -32,12 +32,17 @@ const TRACE: Small<'static> = Small {
     functions: &[(b"ftrace_caller", F), (b"f", F + 1)],
 };
 
-/// A module and a script before the first event.
-fn world<R: Abort + AllocGlobal>(rt: &R, small: &Small<'_>, text: &[u8]) -> Result<World, Fail> {
+/// The module.
+fn image<R: Abort + AllocGlobal>(rt: &R, small: &Small<'_>) -> Result<Image, Fail> {
     let file = small.file(rt.alloc())?;
     assert!(rt; file.len() < 10_000);
+    Ok(Image::accept(rt.alloc(), &ElfFile::read(&file)?)?)
+}
+
+/// A module and a script before the first event.
+fn world<R: Abort + AllocGlobal>(rt: &R, small: &Small<'_>, text: &[u8]) -> Result<World, Fail> {
     assert!(rt; text.len() < 100);
-    let image = Image::accept(rt.alloc(), &ElfFile::read(&file)?)?;
+    let image = image(rt, small)?;
     let script = Script::read(rt.alloc(), text, &image)?;
     Ok(World::new(rt.alloc(), image, script)?)
 }
@@ -82,8 +87,7 @@ fn event(letter: u8, fetched: &[u8]) -> Event {
 }
 
 /// Tries events, and checks which come, what they show and what tracers see.
-fn runs<R: Abort + AllocGlobal>(rt: &R, run: &Run<'_>) -> Result<(), Fail> {
-    let mut world = world(rt, run.small, run.script)?;
+fn tries<R: Abort + AllocGlobal>(rt: &R, world: &mut World, run: &Run<'_>) -> Result<(), Fail> {
     let mut shown = Vec::new(rt.alloc());
     let mut seen = Acted::Plain;
     for letter in run.events {
@@ -101,6 +105,12 @@ fn runs<R: Abort + AllocGlobal>(rt: &R, run: &Run<'_>) -> Result<(), Fail> {
     assert_eq!(rt; seen, run.seen);
     assert_eq!(rt; world.finished(), run.finished);
     Ok(())
+}
+
+/// Tries the events of a run from its beginning on.
+fn runs<R: Abort + AllocGlobal>(rt: &R, run: &Run<'_>) -> Result<(), Fail> {
+    let mut world = world(rt, run.small, run.script)?;
+    tries(rt, &mut world, run)
 }
 
 #[test]

@@ -4,8 +4,10 @@ use crate::{Script, ScriptError, ScriptStep, ScriptWhy};
 use elf_build::{KeyStart, PlanSite};
 use elf_module::ElfFile;
 use module_image::{Command, Image};
+use poke_base::NoMemory;
 use small_module::{F, Small};
 use std::alloc::Global;
+use std::process::Abort;
 use std::test::Fail;
 
 /// A module: ENDBR64 and a traced NOP after it, a switch, a load, a call and two returns. Its functions are `f` with the
@@ -36,34 +38,34 @@ const MODULE: Small<'static> = Small {
     ],
 };
 
-/// Some lines, then one line several times, then a last one.
-fn long(
-    alloc: Global,
-    first: &[u8],
-    line: &[u8],
-    times: u32,
-    last: &[u8],
-) -> Result<Vec<u8>, Fail> {
-    let mut text = Vec::from_slice(alloc, first)?;
-    for _ in 0..times {
-        text.extend_from_slice(line)?;
-    }
-    text.extend_from_slice(last)?;
-    Ok(text)
+/// The module.
+fn image<R: Abort + AllocGlobal>(rt: &R) -> Result<Image, Fail> {
+    let bytes = MODULE.file(rt.alloc())?;
+    assert!(rt; bytes.len() < 10_000);
+    Ok(Image::accept(rt.alloc(), &ElfFile::read(&bytes)?)?)
+}
+
+/// Asserts what a script of the module says.
+fn says<R: Abort + AllocGlobal>(
+    rt: &R,
+    image: &Image,
+    text: &[u8],
+    entries: &[u64],
+    steps: &[ScriptStep],
+) -> Result<(), Fail> {
+    assert!(rt; text.len() < 1_000);
+    let script = Script::read(rt.alloc(), text, image)?;
+    assert_eq!(rt; script.entries(), entries);
+    assert_eq!(rt; script.steps(), steps);
+    Ok(())
 }
 
 #[test]
 fn a_script_is_read(rt: HostRuntime) -> Result<(), Fail> {
-    let bytes = MODULE.file(rt.alloc())?;
-    assert!(rt; bytes.len() < 10_000);
-    let image = Image::accept(rt.alloc(), &ElfFile::read(&bytes)?)?;
-
     let text =
         b"# a comment\n\n \t\r\ncpu f\r\n\tcpu  g\ncpu *\ncpu -\ninc k\ndec k\n  # enable g\nenable k\ndisable k\n\
         call ck g\ncall ck -\ncall ck *\ntrace f\nuntrace f\ntrace *\nuntrace *\nrun 01\nrun 1000\ndrop 0\ndrop 255";
-    let script = Script::read(rt.alloc(), text, &image)?;
     let entries = [F, F + 9, F + 22, F + 21];
-    assert_eq!(rt; script.entries(), entries.as_slice());
     let steps = [
         ScriptStep::Update(Command::Inc(0)),
         ScriptStep::Update(Command::Dec(0)),
@@ -81,17 +83,30 @@ fn a_script_is_read(rt: HostRuntime) -> Result<(), Fail> {
         ScriptStep::Drop(0),
         ScriptStep::Drop(255),
     ];
-    assert_eq!(rt; script.steps(), steps.as_slice());
-    Ok(())
+    let image = image(&rt)?;
+    says(&rt, &image, text, &entries, &steps)
+}
+
+/// Why a script of the module is refused, if it is.
+fn refusal<R: Abort + AllocGlobal>(rt: &R, image: &Image, text: &[u8]) -> Option<ScriptError> {
+    assert!(rt; text.len() < 1_000);
+    Script::read(rt.alloc(), text, image).err()
+}
+
+/// A script, the line that is refused, and why.
+type Refused<'a> = (&'a [u8], u32, ScriptWhy);
+
+/// Asserts of each row that its script is refused.
+fn refuses<R: Abort + AllocGlobal>(rt: &R, image: &Image, rows: &[Refused<'_>]) {
+    for &(text, line, why) in rows {
+        let want = ScriptError::Refused { line, why };
+        assert_eq!(rt; refusal(rt, image, text), Some(want));
+    }
 }
 
 #[test]
 fn lines_are_refused(rt: HostRuntime) -> Result<(), Fail> {
-    let bytes = MODULE.file(rt.alloc())?;
-    assert!(rt; bytes.len() < 10_000);
-    let image = Image::accept(rt.alloc(), &ElfFile::read(&bytes)?)?;
-
-    let rows: [(&[u8], u32, ScriptWhy); 32] = [
+    let rows: [Refused<'_>; 32] = [
         (b"", 1, ScriptWhy::NoCpu),
         (b"#", 2, ScriptWhy::NoCpu),
         (b"# cpu f\n\n# f\n", 4, ScriptWhy::NoCpu),
@@ -125,22 +140,44 @@ fn lines_are_refused(rt: HostRuntime) -> Result<(), Fail> {
         (b"cpu f\nuntrace nofunction", 2, ScriptWhy::Name),
         (b"cpu f\nrun 1\nrun 1000000", 3, ScriptWhy::Turns),
     ];
-    for (text, line, why) in rows {
-        assert!(rt; text.len() < 100);
-        let refused = Script::read(rt.alloc(), text, &image).err();
-        assert_eq!(rt; refused, Some(ScriptError::Refused { line, why }));
+    let image = image(&rt)?;
+    refuses(&rt, &image, &rows);
+    Ok(())
+}
+
+/// Beside a first line of a processor: a line that follows so often, the last line, and why that is refused, if it is.
+type Long<'a> = (&'a [u8], u32, &'a [u8], Option<ScriptWhy>);
+
+/// The script of a row.
+fn long(alloc: Global, (line, times, last, _): Long<'_>) -> Result<Vec<u8>, NoMemory> {
+    let mut text = Vec::from_slice(alloc, b"cpu f\n")?;
+    for _ in 0..times {
+        text.extend_from_slice(line)?;
+    }
+    text.extend_from_slice(last)?;
+    Ok(text)
+}
+
+/// Asserts of each row how its script is answered.
+fn answers<R: Abort + AllocGlobal>(
+    rt: &R,
+    image: &Image,
+    rows: &[Long<'_>],
+) -> Result<(), NoMemory> {
+    for row in rows {
+        let text = long(rt.alloc(), *row)?;
+        let want = row.3.map(|why| ScriptError::Refused {
+            line: row.1.saturating_add(2),
+            why,
+        });
+        assert_eq!(rt; refusal(rt, image, &text), want);
     }
     Ok(())
 }
 
 #[test]
 fn limits_are_kept(rt: HostRuntime) -> Result<(), Fail> {
-    let bytes = MODULE.file(rt.alloc())?;
-    assert!(rt; bytes.len() < 10_000);
-    let image = Image::accept(rt.alloc(), &ElfFile::read(&bytes)?)?;
-
-    // The first line, one that follows so often, the last, and why the last is refused.
-    let rows: [(&[u8], u32, &[u8], Option<ScriptWhy>); 12] = [
+    let rows: [Long<'_>; 12] = [
         (b"cpu g\n", 15, b"#", None),
         (b"cpu g\n", 15, b"cpu g", Some(ScriptWhy::Cpus)),
         (b"cpu g\n", 15, b"cpu nofunction", Some(ScriptWhy::Cpus)),
@@ -154,16 +191,8 @@ fn limits_are_kept(rt: HostRuntime) -> Result<(), Fail> {
         (b"run 250000\n", 4, b"run 1", Some(ScriptWhy::Turns)),
         (b"run 250000\n", 4, b"cpu f", Some(ScriptWhy::LateCpu)),
     ];
-    for (line, times, last, why) in rows {
-        let text = long(rt.alloc(), b"cpu f\n", line, times, last)?;
-        assert!(rt; text.len() < 1_000);
-        let refused = Script::read(rt.alloc(), &text, &image).err();
-        let expected = why.map(|why| ScriptError::Refused {
-            line: times.saturating_add(2),
-            why,
-        });
-        assert_eq!(rt; refused, expected);
-    }
+    let image = image(&rt)?;
+    answers(&rt, &image, &rows)?;
     Ok(())
 }
 

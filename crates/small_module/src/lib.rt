@@ -1,8 +1,8 @@
 //! Small modules for the tests of other crates, written of a text, sites, keys and functions that stand in slices.
 #![tactic(auto)]
 
-ghost use Rattle.std.specs.Prelude.{◌≡◌, ◌≤◌, length, IfOk};
-ghost use Rattle.small_module.specs.SmallModule.{written};
+ghost use Rattle.std.specs.Prelude.{◌≡◌, IfOk};
+ghost use Rattle.small_module.specs.SmallModule.{named, written};
 
 mod modules;
 
@@ -68,9 +68,9 @@ impl Small<'_> {
     }
 }
 
-/// A name of these bytes.
+/// A name of these bytes; an empty one where they are more than 64.
 pub fn name(bytes: &[u8]) -> Name
-    ensures { length bytes.now ≤ 64 → result.items ≡ bytes.now }
+    ensures { result.items ≡ named bytes.now }
 {
     let mut name = Name::new();
     let _ = name.try_extend_from_slice(bytes);

@@ -1,7 +1,7 @@
 -- The program ends with the fault that came in place of its words.
 use Rattle.std.proofs.Common.{◌≡◌, ℕ, Ok, Err, subst, sym, inr}
 use Rattle.poke_base.specs.Host.{Outside}
-use Rattle.poke_tool.specs.declared.fault.Fault.{Fault}
+use Rattle.poke_faults.specs.declared.fault.Fault.{Fault}
 use Rattle.poke_tool.specs.Runs.{Ends}
 use Rattle.textpoke.specs.Program.{Args, Gives, RunsProgram}
 

@@ -3,6 +3,8 @@
 
 mod program;
 #[cfg(test)]
+mod real_tests;
+#[cfg(test)]
 mod tests;
 
 use crate::program::run;

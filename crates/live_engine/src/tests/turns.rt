@@ -137,6 +137,20 @@ fn goes(
 
 /// Does steps from the beginning of a script of one processor on; whether the processor runs in the end, and what it has
 /// acknowledged.
+fn walks(
+    rt: &(impl Abort + AllocGlobal),
+    image: &Image,
+    script: &Script,
+    steps: &[Step],
+) -> Result<(Life, u64), Fail>
+    requires { IsScriptOf image.now script.now }
+{
+    let (text, mut patcher, mut job) = lone(rt, rt.alloc(), image, script)?;
+    goes(rt, image, &text, &mut patcher, &mut job, steps);
+    Ok((job.cpu.proc().life, text.acked(&job.seat)))
+}
+
+/// Does steps from the beginning of a module's script of one processor on; what comes of it is as `walks` has it.
 fn follows(
     rt: &(impl Abort + AllocGlobal),
     small: &Small<'_>,
@@ -145,9 +159,7 @@ fn follows(
 ) -> Result<(Life, u64), Fail> {
     let image = image(rt, rt.alloc(), small)?;
     let script = script(rt, rt.alloc(), script_text, &image)?;
-    let (text, mut patcher, mut job) = lone(rt, rt.alloc(), &image, &script)?;
-    goes(rt, &image, &text, &mut patcher, &mut job, steps);
-    Ok((job.cpu.proc().life, text.acked(&job.seat)))
+    walks(rt, &image, &script, steps)
 }
 
 /// The update of the one key, and a processor that begins at the switch.

@@ -1,5 +1,5 @@
 use Rattle.std.proofs.Common.{Err, Ok, refl}
-use Rattle.poke_tool.specs.declared.fault.Fault.TheVariants.{Memory, Write}
+use Rattle.poke_faults.specs.declared.fault.Fault.TheVariants.{Memory, Write}
 use Rattle.poke_tool.specs.BenchText.{bench_text}
 use Rattle.poke_tool.specs.Command.{Bench}
 use Rattle.poke_tool.proofs.Asking.{has_read-none}

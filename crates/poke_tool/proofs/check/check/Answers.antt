@@ -1,5 +1,5 @@
 use Rattle.std.proofs.Common.{Err, Ok, inr, refl}
-use Rattle.poke_tool.specs.declared.fault.Fault.TheVariants.{Write}
+use Rattle.poke_faults.specs.declared.fault.Fault.TheVariants.{Write}
 use Rattle.poke_tool.specs.Check.{accepted_text}
 use Rattle.poke_tool.specs.Command.{Check}
 use Rattle.poke_tool.specs.Saying.{CheckSays}

@@ -1,7 +1,7 @@
 use Rattle.std.proofs.Common.{ℕ, List, Ok, Err, refl, subst}
 use Rattle.poke_base.specs.declared.host.WriteFail.{WriteFail}
 use Rattle.poke_base.specs.Host.{Appends}
-use Rattle.poke_tool.specs.declared.fault.Fault.TheVariants.{Write}
+use Rattle.poke_faults.specs.declared.fault.Fault.TheVariants.{Write}
 use Rattle.poke_tool.specs.Command.{Make}
 use Rattle.poke_tool.proofs.Asking.{has_read-none}
 use Rattle.poke_tool.proofs.Ways.{at_exit, makes_nothing, makes_said}

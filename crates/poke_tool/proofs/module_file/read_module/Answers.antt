@@ -2,11 +2,11 @@ use Rattle.std.proofs.Common.{◌≡◌, ◌∙◌, ◌<◌, ℕ, List, length, 
 use Rattle.std.proofs.lemmas.Result.{err_from_is_err_and}
 use Rattle.poke_base.specs.Host.{Outside}
 use Rattle.module_image.specs.Module.{Module}
-use Rattle.poke_tool.specs.declared.fault.Fault.{Fault}
-use Rattle.poke_tool.specs.declared.fault.Fault.TheVariants.{Words, Refused, Read, Write, Memory}
-use Rattle.poke_tool.specs.declared.fault.Refusal.{Refusal}
-use Rattle.poke_tool.specs.declared.fault.Refusal.TheVariants.{Module as ModuleRefusal}
-use Rattle.poke_tool.specs.declared.module_fault.ModuleRefused.TheVariants.{TooLong}
+use Rattle.poke_faults.specs.declared.fault.Fault.{Fault}
+use Rattle.poke_faults.specs.declared.fault.Fault.TheVariants.{Words, Refused, Read, Write, Memory}
+use Rattle.poke_faults.specs.declared.fault.Refusal.{Refusal}
+use Rattle.poke_faults.specs.declared.fault.Refusal.TheVariants.{Module as ModuleRefusal}
+use Rattle.poke_faults.specs.declared.module_fault.ModuleRefused.TheVariants.{TooLong}
 use Rattle.poke_tool.specs.Check.{Accepts, RefusesAsModule, RefusesFile}
 use Rattle.poke_tool.specs.Module.{module_limit}
 use Rattle.poke_tool.specs.Runs.{InputIs, ReadsInput}

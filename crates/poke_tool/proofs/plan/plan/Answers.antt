@@ -1,13 +1,13 @@
 use Rattle.std.proofs.Common.{◌∙◌, ℕ, List, Err, Ok, ap, refl, subst}
 use Rattle.std.specs.List.{flat_map}
 use Rattle.poke_batch.specs.Poke.{Item}
-use Rattle.poke_tool.specs.declared.fault.Fault.TheVariants.{Memory, Refused, Write}
-use Rattle.poke_tool.specs.declared.fault.Refusal.{Refusal}
-use Rattle.poke_tool.specs.declared.fault.Refusal.TheVariants.{Plan as PlanRefusal}
-use Rattle.poke_tool.specs.declared.plan_line.PlanRefused.TheVariants.{TooLong}
+use Rattle.poke_faults.specs.declared.fault.Fault.TheVariants.{Memory, Refused, Write}
+use Rattle.poke_faults.specs.declared.fault.Refusal.{Refusal}
+use Rattle.poke_faults.specs.declared.fault.Refusal.TheVariants.{Plan as PlanRefusal}
+use Rattle.poke_plan.specs.declared.plan_line.PlanRefused.TheVariants.{TooLong}
 use Rattle.poke_tool.specs.Command.{Plan}
-use Rattle.poke_tool.specs.PlanLine.{PokeLine}
-use Rattle.poke_tool.specs.Plan.{item_line, to_print}
+use Rattle.poke_plan.specs.PlanLine.{PokeLine}
+use Rattle.poke_plan.specs.Plan.{item_line, to_print}
 use Rattle.poke_tool.specs.Saying.{refuses, says_text}
 use Rattle.poke_tool.proofs.Ways.{at_exit, one_fails, one_lacks, one_prints, one_refused}
 use Rattle.poke_tool.proofs.plan.plan.Goals as goal

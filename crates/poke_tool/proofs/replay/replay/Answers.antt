@@ -1,8 +1,8 @@
 use Rattle.std.proofs.Common.{◌≡◌, [], ◌∷◌, List, arith, ℕ, inr, refl, subst}
 use Rattle.poke_base.specs.declared.host.AskedBy.TheVariants.{Read as AskedRead}
-use Rattle.poke_tool.specs.declared.fault.Refusal.{Refusal}
-use Rattle.poke_tool.specs.declared.fault.Refusal.TheVariants.{Journal}
-use Rattle.poke_tool.specs.declared.journal_fault.JournalRefused.TheVariants.{Line, TooLong}
+use Rattle.poke_faults.specs.declared.fault.Refusal.{Refusal}
+use Rattle.poke_faults.specs.declared.fault.Refusal.TheVariants.{Journal}
+use Rattle.poke_faults.specs.declared.journal_fault.JournalRefused.TheVariants.{Line, TooLong}
 use Rattle.poke_tool.specs.Check.{Accepts, RefusesAsModule}
 use Rattle.poke_tool.specs.Command.{Replay}
 use Rattle.poke_tool.specs.Journal.{AcceptsJournal, RefusesAsJournal}

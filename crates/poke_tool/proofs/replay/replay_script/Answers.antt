@@ -1,5 +1,5 @@
 use Rattle.std.proofs.Common.{refl}
-use Rattle.poke_tool.specs.declared.fault.Fault.TheVariants.{Memory}
+use Rattle.poke_faults.specs.declared.fault.Fault.TheVariants.{Memory}
 use Rattle.poke_tool.proofs.ThreeFiles.{replay_said, replays_exit}
 use Rattle.poke_tool.proofs.replay.replay_script.Goals as goal
 

@@ -1,5 +1,5 @@
 use Rattle.std.proofs.Common.{Err, Ok}
-use Rattle.poke_tool.specs.RunFault.{run_fault}
+use Rattle.poke_faults.specs.RunFault.{run_fault}
 use Rattle.poke_tool.proofs.ThreeFiles.{replay_answers, replays_exit}
 use Rattle.poke_tool.proofs.replay.replay_world.Goals as goal
 

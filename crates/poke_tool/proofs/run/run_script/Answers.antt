@@ -1,5 +1,5 @@
 use Rattle.std.proofs.Common.{refl}
-use Rattle.poke_tool.specs.declared.fault.Fault.TheVariants.{Memory}
+use Rattle.poke_faults.specs.declared.fault.Fault.TheVariants.{Memory}
 use Rattle.poke_tool.proofs.RunWays.{run_said, runs_exit}
 use Rattle.poke_tool.proofs.run.run_script.Goals as goal
 

@@ -1,6 +1,6 @@
 use Rattle.std.proofs.Common.{Err, Ok, inl, refl}
-use Rattle.poke_tool.specs.declared.fault.Fault.TheVariants.{Write}
-use Rattle.poke_tool.specs.RunFault.{run_fault}
+use Rattle.poke_faults.specs.declared.fault.Fault.TheVariants.{Write}
+use Rattle.poke_faults.specs.RunFault.{run_fault}
 use Rattle.poke_tool.proofs.RunWays.{run_answers, runs_exit}
 use Rattle.poke_tool.proofs.run.run_world.Goals as goal
 

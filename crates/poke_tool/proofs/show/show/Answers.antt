@@ -1,8 +1,8 @@
 use Rattle.std.proofs.Common.{◌∙◌, ℕ, List, Err, Ok, ap, refl, subst}
-use Rattle.poke_tool.specs.declared.fault.Fault.TheVariants.{Refused, Write}
-use Rattle.poke_tool.specs.declared.fault.Refusal.{Refusal}
-use Rattle.poke_tool.specs.declared.fault.Refusal.TheVariants.{Module}
-use Rattle.poke_tool.specs.declared.module_fault.ModuleRefused.TheVariants.{TooLong}
+use Rattle.poke_faults.specs.declared.fault.Fault.TheVariants.{Refused, Write}
+use Rattle.poke_faults.specs.declared.fault.Refusal.{Refusal}
+use Rattle.poke_faults.specs.declared.fault.Refusal.TheVariants.{Module}
+use Rattle.poke_faults.specs.declared.module_fault.ModuleRefused.TheVariants.{TooLong}
 use Rattle.poke_tool.specs.Command.{Show}
 use Rattle.poke_tool.specs.Module.{ModuleShows}
 use Rattle.poke_tool.specs.Saying.{refuses}

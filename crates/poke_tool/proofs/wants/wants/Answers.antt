@@ -1,6 +1,6 @@
 use Rattle.std.proofs.Common.{[], ◌++◌, Err, List, Ok, inr, map, refl, ℕ}
 use Rattle.key_state.specs.Outcome.{ending_of}
-use Rattle.poke_tool.specs.declared.fault.Fault.TheVariants.{Memory, Write}
+use Rattle.poke_faults.specs.declared.fault.Fault.TheVariants.{Memory, Write}
 use Rattle.module_image.specs.SiteLine.{site_lines}
 use Rattle.poke_tool.specs.Check.{Accepts, RefusesAsModule}
 use Rattle.poke_tool.specs.Command.{Wants}

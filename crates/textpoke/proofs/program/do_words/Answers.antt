@@ -1,6 +1,6 @@
 use Rattle.std.proofs.Common.{Err, inr, subst}
 use Rattle.poke_base.specs.Host.{Outside}
-use Rattle.poke_tool.specs.declared.fault.Fault.TheVariants.{Memory}
+use Rattle.poke_faults.specs.declared.fault.Fault.TheVariants.{Memory}
 use Rattle.poke_tool.specs.Runs.{Ends}
 use Rattle.textpoke.proofs.program.do_words.Goals as goal
 

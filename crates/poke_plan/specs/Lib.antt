@@ -1,0 +1,3 @@
+pub mod PlanLine
+pub mod Plan
+pub mod SiteBytes
