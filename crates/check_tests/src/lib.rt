@@ -1,4 +1,4 @@
-//! Tests of `check` over a host in memory, and of the modules that it accepts: what no contract says, with values from
+//! Tests of `check` on modules that it accepts, over a host in memory: what no contract says, with values from
 //! outside. `frame` runs it on a file.
 #![tactic(auto)]
 
@@ -7,14 +7,6 @@ mod accepted;
 #[cfg(test)]
 mod frame;
 #[cfg(test)]
-mod images;
-#[cfg(test)]
 mod names;
 #[cfg(test)]
-mod order;
-#[cfg(test)]
-mod refused;
-#[cfg(test)]
 mod sites;
-#[cfg(test)]
-mod texts;

@@ -1,12 +1,10 @@
 //! What runs the rows of a table: a command over a host in memory, and what has to come of it.
 
-use live_engine::OpenGate;
 use poke_base::MemoryHost;
-use poke_tool::textpoke;
-use std::alloc::Global;
 use std::process::Abort;
 use std::test::Fail;
 use std::thread::Threads;
+use tried_commands::status_of;
 
 /// A name, the words, the files before; the status, what is printed and what is reported.
 pub type Row<'a> = (
@@ -18,15 +16,6 @@ pub type Row<'a> = (
     &'a [u8],
 );
 
-/// The words of a command.
-pub fn words(alloc: Global, list: &[&str]) -> Result<Vec<String>, Fail> {
-    let mut words = Vec::new(alloc);
-    for word in list {
-        words.push(String::from_str(alloc, word)?)?;
-    }
-    Ok(words)
-}
-
 /// Runs the words of a row over a host, and asserts what comes of it.
 pub fn run_over<R: Abort + AllocGlobal + Threads + Sync>(
     rt: &R,
@@ -34,8 +23,7 @@ pub fn run_over<R: Abort + AllocGlobal + Threads + Sync>(
     row: &Row<'_>,
 ) -> Result<(), Fail> {
     let &(name, list, _, status, printed, reported) = row;
-    let mut tracers = Vec::new(rt.alloc());
-    let answer = textpoke(rt, &words(rt.alloc(), list)?, host, &mut tracers, &OpenGate);
+    let answer = status_of(rt, host, list)?;
     assert_eq!(rt; host.complained(), reported, "{name}");
     assert_eq!(rt; host.printed(), printed, "{name}");
     assert_eq!(rt; answer, status, "{name}");
@@ -118,8 +106,7 @@ fn show_on<R: Abort + AllocGlobal + Threads + Sync>(
     module: &[u8],
 ) -> Result<(), Fail> {
     host.put("m", module)?;
-    let list = words(rt.alloc(), &["show", "m"])?;
-    let status = textpoke(rt, &list, host, &mut Vec::new(rt.alloc()), &OpenGate);
+    let status = status_of(rt, host, &["show", "m"])?;
     assert_eq!(rt; host.complained(), b"".as_slice());
     assert_eq!(rt; status, 0);
     Ok(())

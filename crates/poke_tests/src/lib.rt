@@ -3,8 +3,6 @@
 #![tactic(auto)]
 
 #[cfg(test)]
-mod asked_host;
-#[cfg(test)]
 mod checks;
 #[cfg(test)]
 mod frame;

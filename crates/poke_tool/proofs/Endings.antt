@@ -9,15 +9,15 @@ use Rattle.poke_faults.specs.declared.fault.Fault.{Fault}
 use Rattle.poke_faults.specs.declared.fault.Fault.TheVariants.{Words, Refused, Read, Write, Memory}
 use Rattle.poke_faults.specs.declared.fault.Refusal.{Refusal}
 use Rattle.poke_faults.specs.declared.fault.Refusal.TheVariants.{Module, Plan, Script, Journal}
-use Rattle.poke_tool.specs.Command as command
-use Rattle.poke_tool.specs.Command.{Row, file_words}
+use Rattle.poke_commands.specs.Command as command
+use Rattle.poke_commands.specs.Command.{Row, file_words}
 use Rattle.poke_faults.specs.Fault.{status_of, complaint_of, refusal_status}
-use Rattle.poke_tool.specs.RunCuts.{CutsRun, StopsBetween, StopsEarly}
-use Rattle.poke_tool.specs.Runs.{Concludes, Coupled, Cuts, DoesNamed, DoesSaying, Ends, FailsReading, FailsWriting, IsRead, LeavesAll, MadePart, MadeWhole, MakesNothing, MakesPrefix, RunsRow}
-use Rattle.poke_tool.specs.Saying.{IsModuleOf, MakeSays, Saying, Says, refused_status, saying_status, told_before, where_told}
-use Rattle.poke_tool.specs.Endings.{AsksInOrder, EndsAloud, EndsMaking, EndsRefused, EndsSaying, MayBeCut, Reported}
-use Rattle.poke_tool.proofs.Asking.{LeavesAll-trans, MakesNothing-trans, added_later}
-use Rattle.poke_tool.proofs.Sayings.{IsLineOf, begins_less, cut_refused, says_alike, says_less, says_plain}
+use Rattle.poke_commands.specs.RunCuts.{CutsRun, StopsBetween, StopsEarly}
+use Rattle.poke_commands.specs.Runs.{Concludes, Coupled, Cuts, DoesNamed, DoesSaying, Ends, FailsReading, FailsWriting, IsRead, LeavesAll, MadePart, MadeWhole, MakesNothing, MakesPrefix, MayBeCut, RunsRow}
+use Rattle.poke_commands.specs.Saying.{IsModuleOf, MakeSays, Saying, Says, refused_status, saying_status, told_before, where_told}
+use Rattle.poke_tool.specs.Endings.{AsksInOrder, EndsAloud, EndsMaking, EndsRefused, EndsSaying, Reported}
+use Rattle.poke_commands.proofs.Asking.{LeavesAll-trans, MakesNothing-trans, added_later}
+use Rattle.poke_commands.proofs.Sayings.{IsLineOf, begins_less, cut_refused, says_alike, says_less, says_plain}
 
 -- what a report leaves, or nothing
 record Settles (middle new : Outside) : Type 0 where

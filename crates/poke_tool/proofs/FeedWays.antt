@@ -1,7 +1,6 @@
 -- What `run` and `replay` make of the tracers, by the ways through them.
-use Rattle.std.proofs.Common.{◌≡◌, ◌++◌, ◌⊎◌, inl, inr, ℕ, List, [], length, Result, Ok, Err, IsErrAnd, Vec, refl, sym, subst}
+use Rattle.std.proofs.Common.{◌≡◌, ◌++◌, ◌⊎◌, inl, inr, ℕ, List, [], length, Result, Ok, Err, Vec, refl, sym, subst}
 use Rattle.std.specs.declared.alloc.Global.{Global}
-use Rattle.std.proofs.lemmas.Result.{err_from_is_err_and}
 use Rattle.poke_base.specs.Host.{Outside, Tells, with_more}
 use Rattle.poke_base.proofs.Outsides.{Tells-trans}
 use Rattle.module_image.specs.Module.{Module}
@@ -21,24 +20,18 @@ use Rattle.poke_faults.specs.declared.fault.Fault.TheVariants.{Memory, Read, Ref
 use Rattle.poke_faults.specs.declared.fault.Refusal.{Refusal}
 use Rattle.poke_faults.specs.declared.fault.Refusal.TheVariants.{Journal, Module as ModuleRefusal, Plan, Script}
 use Rattle.poke_faults.specs.declared.journal_fault.JournalRefused.TheVariants.{Line, TooLong}
-use Rattle.poke_tool.specs.Check.{Accepts}
-use Rattle.poke_tool.specs.Feeding.{IsCutWith, ReplayFeeds, RunFeeds}
-use Rattle.poke_tool.specs.Headline.{AnyRun, HoldsInputs}
+use Rattle.poke_commands.specs.Check.{Accepts}
+use Rattle.poke_commands.specs.Feeding.{IsCutWith, ReplayFeeds, RunFeeds}
+use Rattle.poke_commands.specs.Headline.{AnyRun, HoldsInputs}
 use Rattle.poke_faults.specs.RunFault.{run_fault}
-use Rattle.poke_tool.specs.Runs.{ReadsInput}
-use Rattle.poke_tool.specs.Saying.{told_before}
-use Rattle.poke_tool.specs.Script.{AcceptsScript}
-use Rattle.poke_tool.specs.Scripted.{HasNoJournal, ReplaysAs, RunsAs, RunsScript, StopsScript}
-use Rattle.poke_tool.proofs.Asking.{added_later}
+use Rattle.poke_commands.specs.Runs.{ReadsInput}
+use Rattle.poke_commands.specs.Saying.{told_before}
+use Rattle.poke_commands.specs.Script.{AcceptsScript}
+use Rattle.poke_commands.specs.Scripted.{HasNoJournal, ReplaysAs, RunsAs, RunsScript, StopsScript}
+use Rattle.poke_commands.proofs.Asking.{added_later}
 use Rattle.poke_tool.proofs.RunWays.{Made, ReadBoth, a_run, filed_now, has_both, holds_both, printed_now, still_made, still_unmade, stops_between, stops_early, unmade_files}
 use Rattle.poke_tool.proofs.ThreeFiles.{ReadAll, all_hold, has_all, third_fits, third_holds, unchanged}
-use Rattle.poke_tool.proofs.TwoFiles.{BothHold}
-
--- a fault that is handed on
-pub fault_as : (P : Result (Unit {0}) Fault → Type 0) (fault : Fault) (result : Result (Unit {0}) Fault) → IsErrAnd result (λ e. e ≡ fault) → P (Err fault) → P result
-fault_as P fault result is holds =
-    let p = err_from_is_err_and result is in
-    subst P (sym p.1) (subst (λ (f : Fault). P (Err f)) (sym p.2) holds)
+use Rattle.poke_commands.proofs.TwoFiles.{BothHold}
 
 -- what the files hold, of a run with these events
 inputs : (told_module told_script : List ℕ) (old new : Outside) (m : Module) (script : ScriptValue) (events : List Event) → BothHold (told_before old new) told_module told_script Accepts m (AcceptsScript m) script → HoldsInputs (told_before old new) told_module told_script (record { m = m; script = script; events = events })

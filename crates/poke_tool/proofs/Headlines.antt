@@ -7,13 +7,13 @@ use Rattle.recorded_run.specs.Trace.{trace}
 use Rattle.recorded_run.proofs.Headline.{legal_runs_are_whole}
 use Rattle.run_journal.specs.Spelling.{journal}
 use Rattle.switching.specs.State.{first}
-use Rattle.poke_tool.specs.Check.{elf_of}
-use Rattle.poke_tool.specs.Command as command
-use Rattle.poke_tool.specs.Command.{Row}
+use Rattle.poke_commands.specs.Check.{elf_of}
+use Rattle.poke_commands.specs.Command as command
+use Rattle.poke_commands.specs.Command.{Row}
 use Rattle.poke_tool.specs.Endings.{EndsSaying}
-use Rattle.poke_tool.specs.Headline.{AnyRun, HoldsInputs, IsShown, RunsProcessors, ShowsLive, ShowsRun, ShowsWalks}
-use Rattle.poke_tool.specs.Runs.{DoesSaying, MadeWhole, PrintsText, RunsRow}
-use Rattle.poke_tool.specs.Saying.{Saying, Says, says_both, says_text, told_before}
+use Rattle.poke_commands.specs.Headline.{AnyRun, HoldsInputs, IsShown, RunsProcessors, ShowsLive, ShowsRun, ShowsWalks}
+use Rattle.poke_commands.specs.Runs.{DoesSaying, MadeWhole, PrintsText, RunsRow}
+use Rattle.poke_commands.specs.Saying.{Saying, Says, says_both, says_text, told_before}
 use Rattle.poke_tool.proofs.Endings.{ends_saying}
 
 -- ---- the headline

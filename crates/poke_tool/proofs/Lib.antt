@@ -1,15 +1,7 @@
-pub mod Asking
-pub mod Ways
-pub mod TwoFiles
-pub mod SameModules
-pub mod Sayings
-pub mod Endings
-pub mod TableLines
-pub mod OutcomeLines
-pub mod ScriptUpdates
 pub mod SomeTally
 pub mod ThreeFiles
 pub mod RunWays
-pub mod Headlines
 pub mod FeedWays
 pub mod LiveRuns
+pub mod Endings
+pub mod Headlines

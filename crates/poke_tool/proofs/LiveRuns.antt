@@ -18,8 +18,8 @@ use Rattle.poke_base.specs.Host.{Outside, Prints}
 use Rattle.poke_base.proofs.Outsides.{Prints-more, Prints-prefix}
 use Rattle.script_text.specs.Laws.{IsScriptOf}
 use Rattle.script_text.specs.Script.{ScriptValue}
-use Rattle.poke_tool.specs.Live.{IsLiveText}
-use Rattle.poke_tool.specs.Wants.{last_states, outcome_lines, script_outcomes}
+use Rattle.poke_commands.specs.Live.{IsLiveText}
+use Rattle.poke_commands.specs.Wants.{last_states, outcome_lines, script_outcomes}
 
 -- the members of vectors, as lists
 abbrev pub members : List (Vec Turn Global) → List (List Turn)

@@ -1,8 +1,7 @@
 -- The ways through `run`: its module and script are read, its journal is made, and then it runs.
-use Rattle.std.proofs.Common.{◌≡◌, ◌∙◌, ◌⊎◌, inl, inr, ℕ, List, [], ◌∷◌, ◌++◌, take, Option, Some, None, IsSome, Result, Ok, Err, IsErrAnd, refl, sym, ap, subst, arith, append_assoc, append-nil}
+use Rattle.std.proofs.Common.{◌≡◌, ◌∙◌, ◌⊎◌, inl, inr, ℕ, List, [], ◌∷◌, ◌++◌, take, Option, Some, None, IsSome, Result, Ok, Err, refl, sym, ap, subst, arith, append_assoc, append-nil}
 use Rattle.std.specs.List.{flat_map}
 use Rattle.std.proofs.lemmas.Grind.{flat_map-append}
-use Rattle.std.proofs.lemmas.Result.{err_from_is_err_and}
 use Rattle.poke_base.specs.declared.host.AskedBy.TheVariants.{Make as AskedMake}
 use Rattle.poke_base.specs.declared.host.WriteFail.{WriteFail}
 use Rattle.poke_base.specs.Host.{Files, MakesFile, Outside, Rose, Tells, with_file, with_more}
@@ -29,17 +28,17 @@ use Rattle.switching.proofs.ChoiceLegal.{chosen_are_legal}
 use Rattle.switching.proofs.ChoiceRuns.{runs_are_there}
 use Rattle.poke_faults.specs.declared.fault.Fault.{Fault}
 use Rattle.poke_faults.specs.declared.fault.Fault.TheVariants.{Memory, Read, Refused, Words, Write}
-use Rattle.poke_tool.specs.Check.{Accepts, RefusesAsModule, elf_of}
-use Rattle.poke_tool.specs.Command.{Run, file_words}
-use Rattle.poke_tool.specs.RunCuts.{CutsRun, StopsBetween, StopsEarly}
-use Rattle.poke_tool.specs.Runs.{Asks, Does, MakesPrefix, PrintsPrefix, ReadsInput}
-use Rattle.poke_tool.specs.Saying.{RunSays, Says, says_both, told_before}
-use Rattle.poke_tool.specs.Script.{AcceptsScript, RefusesAsScript}
-use Rattle.poke_tool.specs.Scripted.{RunsAs, RunsScript}
-use Rattle.poke_tool.proofs.Asking.{Asks-makes, Asks-more, Asks-same, HasRead, added_later, made_later, made_with, still_told}
+use Rattle.poke_commands.specs.Check.{Accepts, RefusesAsModule, elf_of}
+use Rattle.poke_commands.specs.Command.{Run, file_words}
+use Rattle.poke_commands.specs.RunCuts.{CutsRun, StopsBetween, StopsEarly}
+use Rattle.poke_commands.specs.Runs.{Asks, Does, MakesPrefix, PrintsPrefix, ReadsInput}
+use Rattle.poke_commands.specs.Saying.{RunSays, Says, says_both, told_before}
+use Rattle.poke_commands.specs.Script.{AcceptsScript, RefusesAsScript}
+use Rattle.poke_commands.specs.Scripted.{RunsAs, RunsScript}
+use Rattle.poke_commands.proofs.Asking.{Asks-makes, Asks-more, Asks-same, HasRead, added_later, made_later, made_with, still_told}
 use Rattle.poke_tool.proofs.SomeTally.{some_tally}
 use Rattle.poke_tool.proofs.ThreeFiles.{Asks-puts, after_run}
-use Rattle.poke_tool.proofs.TwoFiles.{BothHold, ReadsFirst, both_hold, both_lack, both_read}
+use Rattle.poke_commands.proofs.TwoFiles.{BothHold, ReadsFirst, both_hold, both_lack, both_read}
 
 -- ---- a part of a run is a part of its journal and of its trace
 
@@ -412,8 +411,3 @@ pub run_said : (m n : Module) (script other : ScriptValue) (journal_file : List 
 run_said m n script other journal_file seed tracers left old new result same_module same_script did =
     subst (λ (x : Module). RunsAs x other journal_file seed tracers left old new result) same_module
     (subst (λ (x : ScriptValue). RunsAs m x journal_file seed tracers left old new result) same_script did)
-
-pub runs_exit : (m : Module) (script : ScriptValue) (journal_file : List ℕ) (seed : ℕ) (tracers left : List Meaning) (old new : Outside) (fault : Fault) (result : Result (Unit {0}) Fault) → IsErrAnd result (λ e. e ≡ fault) → RunsAs m script journal_file seed tracers left old new (Err fault) → RunsAs m script journal_file seed tracers left old new result
-runs_exit m script journal_file seed tracers left old new fault result is did =
-    let p = err_from_is_err_and result is in
-    subst (λ (r : Result (Unit {0}) Fault). RunsAs m script journal_file seed tracers left old new r) (sym p.1) (subst (λ (f : Fault). RunsAs m script journal_file seed tracers left old new (Err f)) (sym p.2) did)

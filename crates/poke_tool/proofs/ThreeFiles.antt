@@ -1,7 +1,6 @@
 -- The ways through `replay`, whose three files are read one after the other.
-use Rattle.std.proofs.Common.{◌≡◌, ◌≤◌, inl, inr, ℕ, List, [], ◌∷◌, ◌++◌, length, map, Option, Some, None, option_map, unwrap_or, Result, Ok, Err, IsErrAnd, Vec, refl, sym, ap, subst, lit≤}
+use Rattle.std.proofs.Common.{◌≡◌, ◌≤◌, inl, inr, ℕ, List, [], ◌∷◌, ◌++◌, length, map, Option, Some, None, option_map, unwrap_or, Result, Ok, Err, Vec, refl, sym, ap, subst, lit≤}
 use Rattle.std.specs.declared.alloc.Global.{Global}
-use Rattle.std.proofs.lemmas.Result.{err_from_is_err_and}
 use Rattle.poke_base.specs.declared.host.AskedBy.TheVariants.{Read as AskedRead}
 use Rattle.poke_base.specs.Host.{Files, Outside, Tells, Rose, appended}
 use Rattle.poke_base.specs.Text.{IsPrefix}
@@ -23,18 +22,18 @@ use Rattle.poke_faults.specs.declared.fault.Fault.{Fault}
 use Rattle.poke_faults.specs.declared.fault.Fault.TheVariants.{Memory, Read, Refused, Words, Write}
 use Rattle.poke_faults.specs.declared.fault.Refusal.TheVariants.{Journal}
 use Rattle.poke_faults.specs.declared.journal_fault.JournalRefused.TheVariants.{Line}
-use Rattle.poke_tool.specs.Check.{Accepts, RefusesAsModule}
-use Rattle.poke_tool.specs.Command.{Replay, file_words}
-use Rattle.poke_tool.specs.Journal.{AcceptsJournal, RefusesAsJournal, journal_limit}
+use Rattle.poke_commands.specs.Check.{Accepts, RefusesAsModule}
+use Rattle.poke_commands.specs.Command.{Replay, file_words}
+use Rattle.poke_commands.specs.Journal.{AcceptsJournal, RefusesAsJournal, journal_limit}
 use Rattle.poke_faults.specs.RunFault.{run_fault}
-use Rattle.poke_tool.specs.Runs.{Asks, Does, IsRead, MakesNothing, ReadsInput}
-use Rattle.poke_tool.specs.Saying.{Begins, Holds, JournalBegins, JournalSays, Saying, Says, WithJournal, WithScript, refuses, refuses_line, says_text, told_before}
-use Rattle.poke_tool.specs.Script.{AcceptsScript, RefusesAsScript}
-use Rattle.poke_tool.specs.Scripted.{ReplaysAs, StopsScript}
-use Rattle.poke_tool.proofs.Asking.{Asks-none, Asks-same, HasRead, MakesNothing-trans, added_later, has_read-more, held_before, still_told}
-use Rattle.poke_tool.proofs.Sayings.{asks_after_script, replay_asks}
-use Rattle.poke_tool.proofs.TwoFiles.{BothHold, ReadsFirst, both_hold, both_read}
-use Rattle.poke_tool.proofs.Ways.{input_fails, lacks_memory}
+use Rattle.poke_commands.specs.Runs.{Asks, Does, IsRead, MakesNothing, ReadsInput}
+use Rattle.poke_commands.specs.Saying.{Begins, Holds, JournalBegins, JournalSays, Saying, Says, WithJournal, WithScript, refuses, refuses_line, says_text, told_before}
+use Rattle.poke_commands.specs.Script.{AcceptsScript, RefusesAsScript}
+use Rattle.poke_commands.specs.Scripted.{ReplaysAs, StopsScript}
+use Rattle.poke_commands.proofs.Asking.{Asks-none, Asks-same, HasRead, MakesNothing-trans, added_later, has_read-more, held_before, still_told}
+use Rattle.poke_commands.proofs.Sayings.{asks_after_script, replay_asks}
+use Rattle.poke_commands.proofs.TwoFiles.{BothHold, ReadsFirst, both_hold, both_read}
+use Rattle.poke_commands.proofs.Ways.{input_fails, lacks_memory}
 
 -- what a run does to the outside asks for nothing
 pub Asks-puts : (old new : Outside) (filed text : List ℕ) → Puts old new filed text → Asks [] old new
@@ -277,8 +276,3 @@ pub replay_said : (m n : Module) (script other : ScriptValue) (text : List ℕ) 
 replay_said m n script other text tracers left old new result same_module same_script did =
     subst (λ (x : Module). ReplaysAs x other text tracers left old new result) same_module
     (subst (λ (x : ScriptValue). ReplaysAs m x text tracers left old new result) same_script did)
-
-pub replays_exit : (m : Module) (script : ScriptValue) (text : List ℕ) (tracers left : List Meaning) (old new : Outside) (fault : Fault) (result : Result (Unit {0}) Fault) → IsErrAnd result (λ e. e ≡ fault) → ReplaysAs m script text tracers left old new (Err fault) → ReplaysAs m script text tracers left old new result
-replays_exit m script text tracers left old new fault result is did =
-    let p = err_from_is_err_and result is in
-    subst (λ (r : Result (Unit {0}) Fault). ReplaysAs m script text tracers left old new r) (sym p.1) (subst (λ (f : Fault). ReplaysAs m script text tracers left old new (Err f)) (sym p.2) did)

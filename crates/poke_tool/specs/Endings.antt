@@ -6,12 +6,10 @@ use Rattle.poke_base.specs.Host.{Outside, Rose, Tells, Adds, with_file, with_mor
 use Rattle.poke_faults.specs.declared.fault.Fault.{Fault}
 use Rattle.poke_faults.specs.declared.fault.Fault.TheVariants.{Refused}
 use Rattle.poke_faults.specs.declared.fault.Refusal.{Refusal}
-use Rattle.poke_faults.specs.declared.fault.Refusal.TheVariants.{Journal}
-use Rattle.poke_faults.specs.declared.journal_fault.JournalRefused.TheVariants.{Line as JournalLine}
-use Rattle.poke_tool.specs.Command.{Row, file_words}
+use Rattle.poke_commands.specs.Command.{Row, file_words}
 use Rattle.poke_faults.specs.Fault.{complaint_of, refusal_status, status_of}
-use Rattle.poke_tool.specs.Runs.{Cuts, DoesSaying, MakesNothing, MakesPrefix, SaysSomething}
-use Rattle.poke_tool.specs.Saying.{Begins, IsModuleOf, Saying, Says, saying_status, told_before}
+use Rattle.poke_commands.specs.Runs.{Cuts, DoesSaying, MakesNothing, MakesPrefix, MayBeCut}
+use Rattle.poke_commands.specs.Saying.{Begins, IsModuleOf, Saying, Says, saying_status, told_before}
 
 -- the file words of the command, none where the words are no command
 abbrev pub names_of : Option Row → List (List ℕ × AskedBy)
@@ -44,11 +42,6 @@ pub record EndsRefused (row : Row) (old new : Outside) (status : ℕ) : Type 0 w
   pub refused : saying.refused ≡ Some why
   pub does : DoesSaying saying old new
   pub reported : Reported old new status (Refused why)
-
--- a write may fail before a refusal is reached: at a line of a journal, or where something is to be printed or made before it
-abbrev pub MayBeCut : Saying → Refusal → Type 0
-MayBeCut s (Journal (JournalLine line)) = Unit {0}
-MayBeCut s _ = SaysSomething s
 
 -- when each status comes of a command, by what its files said before it
 pub record EndsSaying (row : Row) (old new : Outside) (status : ℕ) : Type 0 where

@@ -1,6 +1,6 @@
 //! The commands, as the words after the program's name give them.
 ghost use Rattle.std.specs.Prelude.{◌≡◌, IfSome, option_map};
-ghost use Rattle.poke_tool.specs.Command.{block_count, one_file, turn_count, two_files, words_of};
+ghost use Rattle.poke_tool.specs.Words.{block_count, one_file, turn_count, two_files, words_of};
 
 use poke_base::read_dec;
 
@@ -58,7 +58,8 @@ pub enum Command<'a> {
 }
 
 impl<'a> Command<'a> {
-    ghost use Rattle.poke_tool.specs.Command.{IsInRange, Replay, Wants, bench_row, live_row, make_row, row, row_of, run_row, three_files, two_files, words_of};
+    ghost use Rattle.poke_commands.specs.Command.{Replay, Wants};
+    ghost use Rattle.poke_tool.specs.Words.{IsInRange, bench_row, live_row, make_row, row, row_of, run_row, three_files, two_files, words_of};
 
     /// The command that the words are. `None` exactly for all other words.
     pub fn read(words: &'a [String]) -> Option<Command<'a>>

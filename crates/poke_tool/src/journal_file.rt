@@ -1,9 +1,9 @@
 //! A journal file.
-ghost use Rattle.poke_tool.specs.Journal.{AcceptsJournal, RefusesAsJournal};
-ghost use Rattle.poke_tool.specs.Runs.{ReadsInput};
+ghost use Rattle.poke_commands.specs.Journal.{AcceptsJournal, RefusesAsJournal};
+ghost use Rattle.poke_commands.specs.Runs.{ReadsInput};
 
-use crate::input::read_input;
 use poke_base::Host;
+use poke_commands::input::read_input;
 use poke_faults::{Fault, JOURNAL_LIMIT, JournalRefused, Refusal};
 use std::alloc::Global;
 

@@ -5,21 +5,23 @@ ghost use Rattle.live_engine.specs.LiveRun.{IsRunOf};
 ghost use Rattle.live_trace.specs.WalkText.{walks_text};
 ghost use Rattle.module_image.specs.SiteLine.{site_lines};
 ghost use Rattle.poke_base.specs.Host.{Prints};
-ghost use Rattle.poke_tool.specs.Command.{Live as LiveRow};
-ghost use Rattle.poke_tool.specs.Runs.{Does};
-ghost use Rattle.poke_tool.specs.Wants.{last_states, outcome_lines};
+ghost use Rattle.poke_commands.specs.Command.{Live as LiveRow};
+ghost use Rattle.poke_commands.specs.Live.{IsLiveText};
+ghost use Rattle.poke_commands.specs.Runs.{Does};
+ghost use Rattle.poke_commands.specs.Scripted.{PrintsAs};
+ghost use Rattle.poke_commands.specs.Wants.{last_states, outcome_lines};
 ghost use Rattle.script_text.specs.Laws.{IsScriptOf};
 ghost use Rattle.script_text.specs.Script.{most_updates};
 
-use crate::dry_run::DryRun;
-use crate::module_file::read_module;
-use crate::script_file::read_script;
-use crate::wants::print_outcomes;
 use live_engine::{Gate, LiveRun, run_live};
 use live_trace::laws::updated_sites_are_wanted;
 use live_trace::{print_live_sites, print_walks};
 use module_image::Image;
 use poke_base::{Host, WriteFail};
+use poke_commands::dry_run::DryRun;
+use poke_commands::module_file::read_module;
+use poke_commands::script_file::read_script;
+use poke_commands::wants::print_outcomes;
 use poke_faults::Fault;
 use script_text::Script;
 use std::thread::Threads;
@@ -46,9 +48,29 @@ pub fn live<R: Threads + AllocGlobal + Sync, H: Host, G: Gate + Sync>(
     let alloc = rt.alloc();
     let image = read_module(alloc, module_name, host)?;
     let script = read_script(alloc, script_name, &image, host)?;
-    let dry_run = DryRun::of(alloc, &image, &script)?;
-    let run = run_live(rt, alloc, &image, &script, turns, seed, gate)?;
-    print_live(&image, &script, &dry_run, &run, host)?;
+    live_script(rt, &image, &script, turns, seed, host, gate)
+}
+
+/// Runs a script of a module on threads, and prints what comes of it.
+///
+/// # Errors
+/// `Memory`: nothing was printed. `Write`: a prefix of the text was printed.
+fn live_script<R: Threads + AllocGlobal + Sync, H: Host, G: Gate + Sync>(
+    rt: &R,
+    image: &Image,
+    script: &Script,
+    turns: u32,
+    seed: u64,
+    host: &mut H,
+    gate: &G,
+) -> Result<(), Fault>
+    requires { IsScriptOf image.now script.now }
+    ensures { PrintsAs (IsLiveText image.now script.now turns) (H.outside host.old) (H.outside host.new) result }
+{
+    let alloc = rt.alloc();
+    let dry_run = DryRun::of(alloc, image, script)?;
+    let run = run_live(rt, alloc, image, script, turns, seed, gate)?;
+    print_live(image, script, &dry_run, &run, host)?;
     Ok(())
 }
 

@@ -1,18 +1,18 @@
 //! The command `replay`: the trace of a journal.
 ghost use Rattle.std.specs.Prelude.{◌≡◌, map};
-ghost use Rattle.poke_tool.specs.Command.{Replay as ReplayRow};
-ghost use Rattle.poke_tool.specs.Feeding.{ReplayFeeds};
-ghost use Rattle.poke_tool.specs.Runs.{Does};
-ghost use Rattle.poke_tool.specs.Scripted.{ReplaysAs};
+ghost use Rattle.poke_commands.specs.Command.{Replay as ReplayRow};
+ghost use Rattle.poke_commands.specs.Feeding.{ReplayFeeds};
+ghost use Rattle.poke_commands.specs.Runs.{Does};
+ghost use Rattle.poke_commands.specs.Scripted.{ReplaysAs};
 ghost use Rattle.script_runner.specs.World.{StandsFor};
 ghost use Rattle.script_text.specs.Laws.{IsScriptOf};
 ghost use Rattle.switching.specs.State.{first};
 
 use crate::journal_file::read_journal;
-use crate::module_file::read_module;
-use crate::script_file::read_script;
 use module_image::Image;
 use poke_base::Host;
+use poke_commands::module_file::read_module;
+use poke_commands::script_file::read_script;
 use poke_faults::Fault;
 use script_runner::World;
 use script_text::Script;

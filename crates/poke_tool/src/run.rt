@@ -1,17 +1,17 @@
 //! The command `run`: a script runs, and its run is recorded.
 ghost use Rattle.std.specs.Prelude.{◌≡◌, map};
-ghost use Rattle.poke_tool.specs.Command.{Run as RunRow};
-ghost use Rattle.poke_tool.specs.Feeding.{RunFeeds};
-ghost use Rattle.poke_tool.specs.Runs.{Does};
-ghost use Rattle.poke_tool.specs.Scripted.{RunsAs};
+ghost use Rattle.poke_commands.specs.Command.{Run as RunRow};
+ghost use Rattle.poke_commands.specs.Feeding.{RunFeeds};
+ghost use Rattle.poke_commands.specs.Runs.{Does};
+ghost use Rattle.poke_commands.specs.Scripted.{RunsAs};
 ghost use Rattle.script_runner.specs.World.{StandsFor};
 ghost use Rattle.script_text.specs.Laws.{IsScriptOf};
 ghost use Rattle.switching.specs.State.{first};
 
-use crate::module_file::read_module;
-use crate::script_file::read_script;
 use module_image::Image;
 use poke_base::Host;
+use poke_commands::module_file::read_module;
+use poke_commands::script_file::read_script;
 use poke_faults::Fault;
 use script_runner::{Words, World};
 use script_text::Script;

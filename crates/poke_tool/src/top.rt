@@ -1,25 +1,27 @@
 //! The whole program as one call.
 ghost use Rattle.std.specs.Prelude.{◌≡◌, ◌≢◌, ◌↔◌, ℕ, List, None, Some, map};
 ghost use Rattle.poke_base.specs.Host.{Rose};
-ghost use Rattle.poke_tool.specs.Command.{Row, Make, row, row_of, words_of};
-ghost use Rattle.poke_tool.specs.Runs.{DoesRow, LeavesAll, MakesNothing, Runs};
+ghost use Rattle.poke_commands.specs.Command.{Row, Make};
+ghost use Rattle.poke_tool.specs.Words.{row, row_of, words_of};
+ghost use Rattle.poke_commands.specs.Runs.{DoesRow, LeavesAll, MakesNothing};
+ghost use Rattle.poke_tool.specs.Runs.{Runs};
 ghost use Rattle.poke_tool.specs.Endings.{AsksInOrder, EndsAloud, EndsMaking, EndsSaying};
-ghost use Rattle.poke_tool.specs.Feeding.{Feeds, FeedsTracers};
-ghost use Rattle.poke_tool.specs.Headline.{AnyRun, IsShown, RunsProcessors, ShowsRun, ShowsWalks};
+ghost use Rattle.poke_commands.specs.Feeding.{Feeds, FeedsTracers};
+ghost use Rattle.poke_commands.specs.Headline.{AnyRun, IsShown, RunsProcessors, ShowsRun, ShowsWalks};
 ghost use Rattle.recorded_run.specs.Headline.{EndsAsCommands, HoldsWhatIsWanted, IsSwitched, NeverOldAgain, OnlyNewAfterReturn, PassesWhole};
 
-use crate::bench::bench;
-use crate::check::check;
 use crate::command::Command;
 use crate::live::live;
-use crate::make::make;
-use crate::plan::plan;
 use crate::replay::replay;
 use crate::run::run;
-use crate::show::show;
-use crate::wants::wants;
 use live_engine::Gate;
 use poke_base::Host;
+use poke_commands::bench::bench;
+use poke_commands::check::check;
+use poke_commands::make::make;
+use poke_commands::plan::plan;
+use poke_commands::show::show;
+use poke_commands::wants::wants;
 use poke_faults::Fault;
 use std::thread::Threads;
 use tracer_ops::Tracer;

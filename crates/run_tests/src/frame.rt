@@ -1,48 +1,14 @@
 //! What runs a command over a host in memory, and what has to come of it.
 
-use live_engine::OpenGate;
-use poke_base::{MemoryHost, NoMemory};
-use poke_tool::textpoke;
+use poke_base::MemoryHost;
 use small_module::Small;
-use std::alloc::Global;
 use std::process::Abort;
 use std::test::Fail;
 use std::thread::Threads;
-use tracer_ops::Tracer;
+use tried_commands::{put_script, status_of};
 
 /// The status, what is printed and what is reported.
 pub type Ended<'a> = (u8, &'a [u8], &'a [u8]);
-
-/// The words of a command.
-pub fn words(alloc: Global, list: &[&str]) -> Result<Vec<String>, Fail> {
-    let mut words = Vec::new(alloc);
-    for word in list {
-        words.push(String::from_str(alloc, word)?)?;
-    }
-    Ok(words)
-}
-
-/// Gives a host a module `m` and a script `s` of it.
-pub fn put_script<R: AllocGlobal>(
-    rt: &R,
-    host: &mut MemoryHost,
-    small: &Small<'_>,
-    script: &[u8],
-) -> Result<(), NoMemory> {
-    let module = small.file(rt.alloc())?;
-    host.put("m", &module)?;
-    host.put("s", script)
-}
-
-/// Runs the words of a command over a host, with the tracers that are told of it, and answers the status.
-pub fn status_of<R: AllocGlobal + Threads + Sync>(
-    rt: &R,
-    host: &mut MemoryHost,
-    list: &[&str],
-    tracers: &mut Vec<Box<dyn Tracer>>,
-) -> Result<u8, Fail> {
-    Ok(textpoke(rt, &words(rt.alloc(), list)?, host, tracers, &OpenGate))
-}
 
 /// Runs the words of a command over a host, without a tracer, and asserts what comes of it.
 pub fn ends<R: Abort + AllocGlobal + Threads + Sync>(
@@ -53,7 +19,7 @@ pub fn ends<R: Abort + AllocGlobal + Threads + Sync>(
     ended: Ended<'_>,
 ) -> Result<(), Fail> {
     let (status, printed, reported) = ended;
-    let answer = status_of(rt, host, list, &mut Vec::new(rt.alloc()))?;
+    let answer = status_of(rt, host, list)?;
     assert_eq!(rt; host.complained(), reported, "{name}");
     assert_eq!(rt; host.printed(), printed, "{name}");
     assert_eq!(rt; answer, status, "{name}");
@@ -88,7 +54,7 @@ fn runs_on<R: Abort + AllocGlobal + Threads + Sync>(
     host: &mut MemoryHost,
     run: &Run<'_>,
 ) -> Result<(), Fail> {
-    put_script(rt, host, &run.small, run.script)?;
+    put_script(rt.alloc(), host, &run.small, run.script)?;
     if let Some(bytes) = run.before {
         host.put("j", bytes)?;
     }

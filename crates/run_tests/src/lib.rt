@@ -1,4 +1,4 @@
-//! Tests of the commands that run processors, each over a host in memory: what no contract says, with values from outside.
+//! Tests of `run`, `replay` and `bench`, each over a host in memory: what no contract says, with values from outside.
 #![tactic(auto)]
 
 #[cfg(test)]
@@ -6,12 +6,6 @@ mod benches;
 #[cfg(test)]
 mod frame;
 #[cfg(test)]
-mod lives;
-#[cfg(test)]
-mod modules;
-#[cfg(test)]
 mod replays;
 #[cfg(test)]
 mod runs;
-#[cfg(test)]
-mod tracers;

@@ -1,12 +1,21 @@
 //! `run`: what is printed, and the journal that is written.
 
-use crate::frame::{Run, runs, status_of};
-use crate::modules::{ENDLESS, traced_300};
+use crate::frame::{Run, runs};
 use poke_base::MemoryHost;
-use small_module::BRANCH;
+use small_module::{BRANCH, F, Small, file_of};
 use std::process::Abort;
 use std::test::Fail;
 use std::thread::Threads;
+use tried_commands::status_of;
+use tried_modules::traced;
+
+/// A function that calls itself without end.
+const ENDLESS: Small<'static> = Small {
+    text: b"\xe8\xfb\xff\xff\xff\xc3",
+    sites: &[],
+    keys: &[],
+    functions: &[(b"f", F)],
+};
 
 /// The words of a run by a seed, with the journal `j`.
 const RUN: &[&str] = &["run", "m", "s", "j", "7"];
@@ -129,10 +138,11 @@ fn halts<R: Abort + AllocGlobal + Threads + Sync>(
     rt: &R,
     host: &mut MemoryHost,
 ) -> Result<(), Fail> {
-    host.put("m", &traced_300(rt.alloc())?)?;
+    let alloc = rt.alloc();
+    host.put("m", &file_of(alloc, &traced(alloc)?)?)?;
     host.put("s", b"cpu h\nrun 1\ntrace *\n")?;
     let list = ["run", "m", "s", "j", "1"];
-    assert_eq!(rt; status_of(rt, host, &list, &mut Vec::new(rt.alloc()))?, 0);
+    assert_eq!(rt; status_of(rt, host, &list)?, 0);
     let begins = b"0 halt\nupdate 1 begin 300\nupdate 1 done 300\nsite 401001 trace e8faffffff\n";
     assert!(rt; host.printed().starts_with(begins));
     assert_eq!(rt; lines_of(b's', host.printed()), 300);

@@ -12,6 +12,3 @@ mod world;
 pub use acted::Acted;
 pub use words::Words;
 pub use world::World;
-
-#[cfg(test)]
-mod tests;

@@ -2,7 +2,7 @@
 use Rattle.std.proofs.Common.{◌≡◌, ℕ, Ok, Err, subst, sym, inr}
 use Rattle.poke_base.specs.Host.{Outside}
 use Rattle.poke_faults.specs.declared.fault.Fault.{Fault}
-use Rattle.poke_tool.specs.Runs.{Ends}
+use Rattle.poke_commands.specs.Runs.{Ends}
 use Rattle.textpoke.specs.Program.{Args, Gives, RunsProgram}
 
 -- the status of the fault is the exit code

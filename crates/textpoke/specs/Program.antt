@@ -10,8 +10,9 @@ use Rattle.std.specs.Vec.Iter.{into_iter_items}
 use Rattle.poke_base.specs.Host.{Outside}
 use Rattle.poke_faults.specs.declared.fault.Fault.{Fault}
 use Rattle.poke_faults.specs.declared.fault.Fault.TheVariants.{Words, Memory}
-use Rattle.poke_tool.specs.Command.{words_of}
-use Rattle.poke_tool.specs.Runs.{Ends, Runs}
+use Rattle.poke_tool.specs.Words.{words_of}
+use Rattle.poke_commands.specs.Runs.{Ends}
+use Rattle.poke_tool.specs.Runs.{Runs}
 
 -- the arguments, the first of which is the program's name, or why they weren't read
 abbrev pub Args : Type 0

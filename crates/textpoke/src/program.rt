@@ -1,8 +1,9 @@
 //! The program over a host: from the arguments to the exit code.
 ghost use Rattle.std.specs.Prelude.{◌≡◌, Err, IfOk, OnErr};
 ghost use Rattle.std.specs.Process.{exit_status};
-ghost use Rattle.poke_tool.specs.Command.{words_of};
-ghost use Rattle.poke_tool.specs.Runs.{Ends, Runs};
+ghost use Rattle.poke_tool.specs.Words.{words_of};
+ghost use Rattle.poke_commands.specs.Runs.{Ends};
+ghost use Rattle.poke_tool.specs.Runs.{Runs};
 ghost use Rattle.textpoke.specs.Program.{Gives, RunsProgram, RunsWords, after_name, args_fault};
 
 use live_engine::OpenGate;

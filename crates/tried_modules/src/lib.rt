@@ -82,6 +82,27 @@ pub const TWO_SWITCHES: Small<'static> = Small {
     functions: &[(b"f", F)],
 };
 
+/// Two switches of different keys, one after the other, and a jump back.
+pub const PAIR: Small<'static> = Small {
+    text: b"\x66\x90\x0f\x1fD\0\0\xeb\xf7",
+    sites: &[
+        PlanSite::Jump {
+            at: F,
+            target: F + 2,
+            key: 0,
+            likely: false,
+        },
+        PlanSite::Jump {
+            at: F + 2,
+            target: F + 7,
+            key: 1,
+            likely: false,
+        },
+    ],
+    keys: &[(b"k", KeyStart::Count(0)), (b"l", KeyStart::Count(0))],
+    functions: &[(b"f", F)],
+};
+
 /// A switch that isn't likely.
 pub fn jump(at: u64, target: u64, key: u32) -> PlanSite
     ensures { result ≡ JumpSite at target key false }

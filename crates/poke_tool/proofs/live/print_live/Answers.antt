@@ -5,7 +5,7 @@ use Rattle.key_state.specs.declared.outcome.Outcome.{Outcome}
 use Rattle.key_state.specs.Outcome.{ending_of}
 use Rattle.live_trace.specs.WalkText.{walks_text}
 use Rattle.module_image.specs.SiteLine.{site_lines}
-use Rattle.poke_tool.specs.Wants.{outcome_lines}
+use Rattle.poke_commands.specs.Wants.{outcome_lines}
 use Rattle.poke_base.proofs.ItemLines.{as_failed}
 use Rattle.poke_tool.proofs.LiveRuns.{members, second_cut, sites_as, three_printed, walks_as, walks_there}
 use Rattle.poke_tool.proofs.live.print_live.Goals as goal

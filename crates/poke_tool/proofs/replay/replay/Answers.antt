@@ -3,17 +3,17 @@ use Rattle.poke_base.specs.declared.host.AskedBy.TheVariants.{Read as AskedRead}
 use Rattle.poke_faults.specs.declared.fault.Refusal.{Refusal}
 use Rattle.poke_faults.specs.declared.fault.Refusal.TheVariants.{Journal}
 use Rattle.poke_faults.specs.declared.journal_fault.JournalRefused.TheVariants.{Line, TooLong}
-use Rattle.poke_tool.specs.Check.{Accepts, RefusesAsModule}
-use Rattle.poke_tool.specs.Command.{Replay}
-use Rattle.poke_tool.specs.Journal.{AcceptsJournal, RefusesAsJournal}
-use Rattle.poke_tool.specs.Saying.{FileSays, JournalSays, ScriptSays, WithJournal, told_before}
-use Rattle.poke_tool.specs.Script.{AcceptsScript, RefusesAsScript}
-use Rattle.poke_tool.specs.Feeding.{ReplayFeeds}
-use Rattle.poke_tool.proofs.FeedWays.{fault_as, replay_untold, replays_feed, same_text}
+use Rattle.poke_commands.specs.Check.{Accepts, RefusesAsModule}
+use Rattle.poke_commands.specs.Command.{Replay}
+use Rattle.poke_commands.specs.Journal.{AcceptsJournal, RefusesAsJournal}
+use Rattle.poke_commands.specs.Saying.{FileSays, JournalSays, ScriptSays, WithJournal, told_before}
+use Rattle.poke_commands.specs.Script.{AcceptsScript, RefusesAsScript}
+use Rattle.poke_commands.specs.Feeding.{ReplayFeeds}
+use Rattle.poke_tool.proofs.FeedWays.{replay_untold, replays_feed, same_text}
 use Rattle.poke_tool.proofs.ThreeFiles.{replays_as, third_fails}
-use Rattle.poke_tool.proofs.Sayings.{asks_script, replay_asks}
-use Rattle.poke_tool.proofs.TwoFiles.{first_fails, second_fails}
-use Rattle.poke_tool.proofs.Ways.{at_exit, module_refused, script_refused}
+use Rattle.poke_commands.proofs.Sayings.{asks_script, replay_asks}
+use Rattle.poke_commands.proofs.TwoFiles.{first_fails, second_fails}
+use Rattle.poke_commands.proofs.Ways.{at_exit, fault_as, module_refused, script_refused}
 use Rattle.poke_tool.proofs.replay.replay.Goals as goal
 
 -- a journal that is too long isn't refused at a line

@@ -1,11 +1,13 @@
 use Rattle.std.proofs.Common.{refl}
 use Rattle.poke_faults.specs.declared.fault.Fault.TheVariants.{Memory}
-use Rattle.poke_tool.proofs.ThreeFiles.{replay_said, replays_exit}
+use Rattle.poke_commands.specs.Scripted.{ReplaysAs}
+use Rattle.poke_tool.proofs.ThreeFiles.{replay_said}
+use Rattle.poke_commands.proofs.Ways.{fault_as}
 use Rattle.poke_tool.proofs.replay.replay_script.Goals as goal
 
 pub returns-in_err-world : goal.returns-in_err-world
 returns-in_err-world g c =
-    replays_exit c.args.image c.args.script c.args.journal.now _ _ _ _ Memory c.from_residual.result c.from_residual.ensures.1 (refl, refl)
+    fault_as (ReplaysAs c.args.image c.args.script c.args.journal.now _ _ _ _) Memory c.from_residual.result c.from_residual.ensures.1 (refl, refl)
 
 pub returns : goal.returns
 returns g c =

@@ -1,15 +1,15 @@
 use Rattle.std.proofs.Common.{[], ◌∷◌, inr, refl}
 use Rattle.poke_base.specs.declared.host.AskedBy.TheVariants.{Make as AskedMake}
-use Rattle.poke_tool.specs.Check.{Accepts, RefusesAsModule}
-use Rattle.poke_tool.specs.Command.{Run}
-use Rattle.poke_tool.specs.Saying.{FileSays, RunSays, ScriptSays, told_before}
-use Rattle.poke_tool.specs.Script.{AcceptsScript, RefusesAsScript}
-use Rattle.poke_tool.specs.Feeding.{RunFeeds}
-use Rattle.poke_tool.proofs.FeedWays.{fault_as, run_untold, runs_feed}
+use Rattle.poke_commands.specs.Check.{Accepts, RefusesAsModule}
+use Rattle.poke_commands.specs.Command.{Run}
+use Rattle.poke_commands.specs.Saying.{FileSays, RunSays, ScriptSays, told_before}
+use Rattle.poke_commands.specs.Script.{AcceptsScript, RefusesAsScript}
+use Rattle.poke_commands.specs.Feeding.{RunFeeds}
+use Rattle.poke_tool.proofs.FeedWays.{run_untold, runs_feed}
 use Rattle.poke_tool.proofs.RunWays.{runs_as}
-use Rattle.poke_tool.proofs.Sayings.{asks_script, run_asks}
-use Rattle.poke_tool.proofs.TwoFiles.{first_fails, second_fails}
-use Rattle.poke_tool.proofs.Ways.{at_exit, module_refused, script_refused}
+use Rattle.poke_commands.proofs.Sayings.{asks_script, run_asks}
+use Rattle.poke_commands.proofs.TwoFiles.{first_fails, second_fails}
+use Rattle.poke_commands.proofs.Ways.{at_exit, fault_as, module_refused, script_refused}
 use Rattle.poke_tool.proofs.run.run.Goals as goal
 
 pub returns-in_err-image : goal.returns-in_err-image

@@ -1,9 +1,10 @@
 use Rattle.std.proofs.Common.{◌≡◌, ◌∙◌, List, ℕ, Option, Some, Err, subst, Ok, refl}
 use Rattle.poke_base.specs.declared.host.WriteFail.{WriteFail}
 use Rattle.poke_base.specs.Host.{Complains, Outside}
-use Rattle.poke_tool.specs.Command.{Make, Row, row_of, words_of}
+use Rattle.poke_commands.specs.Command.{Make, Row}
+use Rattle.poke_tool.specs.Words.{row_of, words_of}
 use Rattle.poke_tool.specs.Endings.{EndsMaking, EndsSaying}
-use Rattle.poke_tool.specs.Runs.{RunsRow}
+use Rattle.poke_commands.specs.Runs.{RunsRow}
 use Rattle.poke_tool.proofs.Endings.{asks_in_order, bad_words, ends_aloud, ends_making, ends_saying, leaves_all, makes_nothing, read_fault, write_fault}
 use Rattle.poke_tool.proofs.Headlines.{headline_of, shows_run, shows_walks}
 use Rattle.poke_tool.proofs.top.textpoke.Goals as goal

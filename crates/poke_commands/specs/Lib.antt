@@ -1,0 +1,15 @@
+pub mod Module
+pub mod Check
+pub mod Script
+pub mod Wants
+pub mod Live
+pub mod Command
+pub mod Saying
+pub mod Runs
+pub mod Tables
+pub mod BenchText
+pub mod RunCuts
+pub mod Journal
+pub mod Scripted
+pub mod Headline
+pub mod Feeding
