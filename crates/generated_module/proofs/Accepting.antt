@@ -17,13 +17,13 @@ use Rattle.site_tables.specs.declared.entries.TableKind.TheVariants.{Jump as Jum
 use Rattle.site_tables.specs.Found.{IsFirstBadTable}
 use Rattle.written_module.specs.Written.{ReadsBack, section_of_part}
 use Rattle.written_module.proofs.ReadBack.{reads-back}
-use Rattle.module_image.specs.declared.entry.Entry.{Entry}
-use Rattle.module_image.specs.declared.key.Key.{Key}
-use Rattle.module_image.specs.declared.key.KeyClass.TheVariants.{Jump as JumpKey, Call as CallKey}
-use Rattle.module_image.specs.declared.refused.Refused.{Refused}
-use Rattle.module_image.specs.declared.refused.Refused.TheVariants.{TextCount, TextSize, Table, SiteCount, SiteOutside, SiteLength, SiteOverlap, KeyOutside, KeyState, NoReach, TracerMissing, Undecoded, BadTarget, EndFalls, NoMemory}
-use Rattle.module_image.specs.declared.site.Site.{Site}
-use Rattle.module_image.specs.declared.unit.Aim.{Aim}
+use Rattle.module_parts.specs.declared.entry.Entry.{Entry}
+use Rattle.module_parts.specs.declared.key.Key.{Key}
+use Rattle.module_parts.specs.declared.key.KeyClass.TheVariants.{Jump as JumpKey, Call as CallKey}
+use Rattle.module_parts.specs.declared.refused.Refused.{Refused}
+use Rattle.module_parts.specs.declared.refused.Refused.TheVariants.{TextCount, TextSize, Table, SiteCount, SiteOutside, SiteLength, SiteOverlap, KeyOutside, KeyState, NoReach, TracerMissing, Undecoded, BadTarget, EndFalls, NoMemory}
+use Rattle.module_parts.specs.declared.site.Site.{Site}
+use Rattle.module_parts.specs.declared.unit.Aim.{Aim}
 use Rattle.module_image.specs.Aims.{IsFirstBad, IsFirstBadOf, IsPlainAim, jump_aims, key_aims, plain_target}
 use Rattle.module_image.specs.Aims.IsFirstBadOf.{of_plain, of_jumps, of_keys, of_functions}
 use Rattle.module_image.specs.Entries.{base, entries, file_text, length_at, text_section}

@@ -7,7 +7,7 @@ use Rattle.elf_build.specs.File.{lead}
 use Rattle.elf_build.specs.Generated.{block_bytes, block_len, block_of, blocks, end_bytes, text_from, text_of}
 use Rattle.x64_subset.specs.declared.insn.AluOp.TheVariants.{Add}
 use Rattle.x64_subset.specs.declared.insn.Insn.TheVariants.{AluImm, Call as CallTo, Dec, Inc, Jcc32, Jmp8, MovImm, Out, Ret}
-use Rattle.module_image.specs.declared.site.Site.{Site}
+use Rattle.module_parts.specs.declared.site.Site.{Site}
 use Rattle.module_image.specs.Layout.{Layout, laid, text_end}
 use Rattle.module_image.proofs.WrittenSites.{IsOff}
 use Rattle.generated_module.proofs.Each.{each-append, each-at, each-more}

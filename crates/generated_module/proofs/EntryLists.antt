@@ -4,8 +4,8 @@ use Rattle.std.specs.List.{AllByRecursion as Each}
 use Rattle.elf_build.specs.declared.generation.Block.{Block}
 use Rattle.elf_build.specs.declared.generation.Block.TheVariants.{FarSwitch, NearSwitch, Call as CallBlock, Trace as TraceBlock, TailCall}
 use Rattle.elf_build.specs.Generated.{block_len, block_of}
-use Rattle.module_image.specs.declared.entry.Entry.{Entry}
-use Rattle.module_image.specs.declared.entry.EntryKind.TheVariants.{Jump, Call, Tail, Trace}
+use Rattle.module_parts.specs.declared.entry.Entry.{Entry}
+use Rattle.module_parts.specs.declared.entry.EntryKind.TheVariants.{Jump, Call, Tail, Trace}
 use Rattle.generated_module.proofs.Each.{each-append}
 use Rattle.generated_module.proofs.Blocks.{Stands, stands-next}
 

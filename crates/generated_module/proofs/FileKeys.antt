@@ -11,9 +11,9 @@ use Rattle.elf_build.specs.declared.plan.KeyStart.TheVariants.{Count, Func}
 use Rattle.elf_build.specs.File.{file_of, key_at, start_bytes}
 use Rattle.elf_build.specs.Generated.{IsGenerated, key}
 use Rattle.written_module.specs.Written.{ReadsBack}
-use Rattle.module_image.specs.declared.entry.Entry.{Entry}
-use Rattle.module_image.specs.declared.key.Key.{Key}
-use Rattle.module_image.specs.declared.key.KeyClass.TheVariants.{Jump, Call}
+use Rattle.module_parts.specs.declared.entry.Entry.{Entry}
+use Rattle.module_parts.specs.declared.key.Key.{Key}
+use Rattle.module_parts.specs.declared.key.KeyClass.TheVariants.{Jump, Call}
 use Rattle.module_image.specs.Keys.{IsUnloaded, gathered, key_addresses, key_of, keys, loaded_after, loaded_number, start_of}
 use Rattle.module_image.specs.Refusals.{HasBadState, IsKeyOutside}
 use Rattle.generated_module.specs.Accepted.{elf_of}

@@ -8,8 +8,8 @@ use Rattle.elf_build.specs.Generated.{block_len, block_of, block_site, sites_fro
 use Rattle.site_tables.specs.declared.entries.JumpEntry.{JumpEntry}
 use Rattle.site_tables.specs.declared.entries.CallSite.{CallSite}
 use Rattle.written_module.specs.Written.{call_of, jump_of, trace_of}
-use Rattle.module_image.specs.declared.entry.Entry.{Entry}
-use Rattle.module_image.specs.declared.entry.EntryKind.TheVariants.{Jump, Call, Tail}
+use Rattle.module_parts.specs.declared.entry.Entry.{Entry}
+use Rattle.module_parts.specs.declared.entry.EntryKind.TheVariants.{Jump, Call, Tail}
 use Rattle.module_image.specs.Entries.{call_entry, jump_entry, trace_entry}
 use Rattle.generated_module.proofs.EntryLists.{block_calls, block_jumps, block_traces, calls_from, jumps_from, traces_from}
 

@@ -6,9 +6,9 @@ use Rattle.elf_build.specs.File.{lead}
 use Rattle.elf_build.specs.Generated.{block_bytes, block_len, block_of, text_from}
 use Rattle.insn_forms.specs.Spelling.{spell}
 use Rattle.x64_subset.specs.Reading.{read}
-use Rattle.module_image.specs.declared.site.Site.{Site}
-use Rattle.module_image.specs.declared.site.SiteKind.{SiteKind}
-use Rattle.module_image.specs.declared.site.SiteKind.TheVariants.{Jump, Call, Tail, Trace}
+use Rattle.module_parts.specs.declared.site.Site.{Site}
+use Rattle.module_parts.specs.declared.site.SiteKind.{SiteKind}
+use Rattle.module_parts.specs.declared.site.SiteKind.TheVariants.{Jump, Call, Tail, Trace}
 use Rattle.module_image.specs.Entries.{answer_len, length_at}
 use Rattle.module_image.specs.Refusals.{IsBadLength, room_of}
 use Rattle.module_image.specs.Sites.{is_early, is_foreign, made, site_of}

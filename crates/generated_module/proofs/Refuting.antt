@@ -9,8 +9,8 @@ use Rattle.elf_build.specs.Fits.{fits}
 use Rattle.elf_build.specs.File.{file_of}
 use Rattle.elf_build.specs.Generated.{IsGenerated}
 use Rattle.written_module.proofs.ReadBack.{reads-back}
-use Rattle.module_image.specs.declared.refused.Refused.{Refused}
-use Rattle.module_image.specs.declared.refused.Refused.TheVariants.{NoMemory}
+use Rattle.module_parts.specs.declared.refused.Refused.{Refused}
+use Rattle.module_parts.specs.declared.refused.Refused.TheVariants.{NoMemory}
 use Rattle.module_image.specs.Refusals.{IsRefusal, IsRefusedFor, Passes, past_all}
 use Rattle.module_image.specs.Module.{IsModule, Module}
 use Rattle.script_text.specs.declared.refused.ScriptError.{ScriptError}

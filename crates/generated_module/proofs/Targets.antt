@@ -12,8 +12,8 @@ use Rattle.insn_forms.specs.declared.forms.Form.TheVariants.{Jmp8}
 use Rattle.insn_forms.specs.Displacement.{displacement, leads}
 use Rattle.insn_forms.specs.Spelling.{after, spell}
 use Rattle.insn_forms.proofs.Displacements.{after-below, displacement8}
-use Rattle.module_image.specs.declared.site.Site.{Site}
-use Rattle.module_image.specs.declared.unit.Aim.{Aim}
+use Rattle.module_parts.specs.declared.site.Site.{Site}
+use Rattle.module_parts.specs.declared.unit.Aim.{Aim}
 use Rattle.module_image.specs.Aims.{jump_aims}
 use Rattle.module_image.specs.Refusals.{IsOutOfReach}
 use Rattle.module_image.specs.Sites.{overlap_after}

@@ -6,8 +6,8 @@ use Rattle.std.proofs.lemmas.List.{take-append-drop}
 use Rattle.x64_subset.specs.declared.insn.Insn.{Insn}
 use Rattle.x64_subset.specs.Reading.{read}
 use Rattle.x64_subset.proofs.Spelt.{IsReadOf}
-use Rattle.module_image.specs.declared.site.Site.{Site}
-use Rattle.module_image.specs.declared.unit.Unit.TheVariants.{Plain, Site as PatchedSite}
+use Rattle.module_parts.specs.declared.site.Site.{Site}
+use Rattle.module_parts.specs.declared.unit.Unit.TheVariants.{Plain, Site as PatchedSite}
 use Rattle.module_image.specs.Aims.{insn_target, plain_target}
 use Rattle.module_image.specs.Layout.{Layout, is_clear, is_patched_at, is_tail, len_of, is_tail_site, may_end, never_falls, no_site_between, plain_unit, site_at, text_end, unit_at, unit_len, unit_of}
 use Rattle.module_image.specs.Sites.{code_at}

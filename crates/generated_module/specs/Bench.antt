@@ -3,7 +3,7 @@ use Rattle.std.specs.Prelude.{◌≡◌, ◌≤◌, ℕ, true, false, List, [], 
 use Rattle.elf_build.specs.declared.plan.Plan.{Plan}
 use Rattle.elf_build.specs.File.{file_of}
 use Rattle.elf_build.specs.Generated.{IsGenerated, fb, main}
-use Rattle.module_image.specs.declared.command.Command.TheVariants.{Inc, Dec, Target, TraceAll}
+use Rattle.module_parts.specs.declared.command.Command.TheVariants.{Inc, Dec, Target, TraceAll}
 use Rattle.module_image.specs.Module.{IsModule, Module}
 use Rattle.script_text.specs.declared.script.ScriptStep.{ScriptStep}
 use Rattle.script_text.specs.declared.script.ScriptStep.TheVariants.{Run, Update}

@@ -15,7 +15,7 @@ use Rattle.key_state.specs.Outcome.{HoldsWanted}
 use Rattle.key_state.proofs.Differing.{IsChangeOf, all_from}
 use Rattle.key_state.proofs.Pieces.{held_piece, same_piece}
 use Rattle.key_state.proofs.Poking.{spelt_there}
-use Rattle.module_image.specs.declared.site.Site.{Site}
+use Rattle.module_parts.specs.declared.site.Site.{Site}
 use Rattle.module_image.specs.Held.{IsBeside}
 use Rattle.module_image.specs.Layout.{site_at}
 use Rattle.module_image.specs.Lent.{IsLaidOut}

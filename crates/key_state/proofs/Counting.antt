@@ -6,9 +6,9 @@ use Rattle.key_state.specs.declared.count.CountRefused.TheVariants.{Zero, Greate
 use Rattle.key_state.specs.After.{by_count, dec_after, disable_after, enable_after, greatest_count, inc_after}
 use Rattle.key_state.specs.Changes.{AreStatesOf}
 use Rattle.key_state.specs.Effects.{CanDo, HoldsCount}
-use Rattle.module_image.specs.declared.command.Command.{Command}
-use Rattle.module_image.specs.declared.command.Command.TheVariants.{Inc, Dec, Enable, Disable, Target, Trace, TraceAll}
-use Rattle.module_image.specs.declared.key.KeyClass.TheVariants.{Jump as JumpKey}
+use Rattle.module_parts.specs.declared.command.Command.{Command}
+use Rattle.module_parts.specs.declared.command.Command.TheVariants.{Inc, Dec, Enable, Disable, Target, Trace, TraceAll}
+use Rattle.module_parts.specs.declared.key.KeyClass.TheVariants.{Jump as JumpKey}
 use Rattle.module_image.specs.Command.{IsCommandOf}
 use Rattle.module_image.specs.Lent.{IsKeyOf}
 use Rattle.module_image.specs.Module.{Module, States}

@@ -10,7 +10,7 @@ use Rattle.insn_forms.specs.declared.forms.Change.{Change}
 use Rattle.insn_forms.specs.Same.{same_form}
 use Rattle.insn_forms.proofs.Same.{same_true}
 use Rattle.key_state.specs.Changes.{change_at, change_between, change_of}
-use Rattle.module_image.specs.declared.site.Site.{Site}
+use Rattle.module_parts.specs.declared.site.Site.{Site}
 use Rattle.module_image.specs.Module.{Module, States, tracer_of, wants}
 use Rattle.module_image.specs.Wants.{state_of, wanted}
 

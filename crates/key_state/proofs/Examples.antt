@@ -7,9 +7,9 @@ use Rattle.key_state.specs.After.{after, dec_after, disable_after, enable_after,
 use Rattle.key_state.specs.Changes.{changes_by}
 use Rattle.key_state.specs.Outcome.{outcomes}
 use Rattle.key_state.specs.Outcome.Ending.{Clashes, CountRefuses, Returns}
-use Rattle.module_image.specs.declared.command.Command.TheVariants.{Dec, Disable, Enable, Inc, Target, Trace, TraceAll}
-use Rattle.module_image.specs.declared.key.KeyClass.TheVariants.{Jump as JumpKey}
-use Rattle.module_image.specs.declared.site.SiteKind.TheVariants.{Jump}
+use Rattle.module_parts.specs.declared.command.Command.TheVariants.{Dec, Disable, Enable, Inc, Target, Trace, TraceAll}
+use Rattle.module_parts.specs.declared.key.KeyClass.TheVariants.{Jump as JumpKey}
+use Rattle.module_parts.specs.declared.site.SiteKind.TheVariants.{Jump}
 use Rattle.module_image.specs.Held.{first_states}
 use Rattle.module_image.specs.Module.{Module, States}
 

@@ -5,7 +5,7 @@ use Rattle.std.proofs.lemmas.Option.{get_or_from_slice_get, slice_get-map}
 use Rattle.key_state.specs.Changes.{AreStatesOf}
 use Rattle.key_state.specs.Laws.{FirstStatesAreOfTheModule}
 use Rattle.key_state.specs.Outcome.{HoldsWanted}
-use Rattle.module_image.specs.declared.key.Key.{Key}
+use Rattle.module_parts.specs.declared.key.Key.{Key}
 use Rattle.module_image.specs.Held.{first_states}
 use Rattle.module_image.specs.Module.{IsAccepted, Module}
 use Rattle.module_image.specs.Sites.{starts_of}

@@ -2,7 +2,7 @@
 use Rattle.std.proofs.Common.{◌≡◌, List, [], ◌∷◌, ◌++◌, refl, ap}
 use Rattle.key_state.specs.Laws.{OutcomesGoOn}
 use Rattle.key_state.specs.Outcome.{Ending, outcome, outcomes, settled, states_after}
-use Rattle.module_image.specs.declared.command.Command.{Command}
+use Rattle.module_parts.specs.declared.command.Command.{Command}
 use Rattle.module_image.specs.Module.{Module, States}
 
 go_on : (m : Module) (states : States) (first more : List Command) → outcomes m states (first ++ more) ≡ outcomes m states first ++ outcomes m (states_after m states first) more

@@ -9,9 +9,9 @@ use Rattle.key_state.specs.After.{after, dec_after, disable_after, enable_after,
 use Rattle.key_state.specs.Changes.{AreStatesOf, changes, first_foreign}
 use Rattle.key_state.specs.Laws.{CommandsKeepStates, UpdatesKeepStates}
 use Rattle.key_state.specs.Outcome.{kept_at, settled_to}
-use Rattle.module_image.specs.declared.command.Command.TheVariants.{Inc, Dec, Enable, Disable, Target, Trace, TraceAll}
-use Rattle.module_image.specs.declared.key.Key.{Key}
-use Rattle.module_image.specs.declared.key.KeyClass.TheVariants.{Jump as JumpKey, Call as CallKey}
+use Rattle.module_parts.specs.declared.command.Command.TheVariants.{Inc, Dec, Enable, Disable, Target, Trace, TraceAll}
+use Rattle.module_parts.specs.declared.key.Key.{Key}
+use Rattle.module_parts.specs.declared.key.KeyClass.TheVariants.{Jump as JumpKey, Call as CallKey}
 use Rattle.module_image.specs.Layout.{IsStart}
 use Rattle.module_image.specs.Lent.{IsKeyOf}
 use Rattle.module_image.specs.Module.{Module, States, layout_of}

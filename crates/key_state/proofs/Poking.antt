@@ -11,7 +11,7 @@ use Rattle.key_state.specs.Changes.{AreStatesOf}
 use Rattle.key_state.specs.Laws.{ChangesCanBePoked}
 use Rattle.key_state.proofs.Differing.{IsChangeOf, all_from, pairs_from}
 use Rattle.key_state.proofs.Pieces.{some_byte}
-use Rattle.module_image.specs.declared.site.Site.{Site}
+use Rattle.module_parts.specs.declared.site.Site.{Site}
 use Rattle.module_image.specs.Module.{IsAccepted, Module, States, wants}
 use Rattle.module_image.proofs.Lent.{sites_laid_out}
 use Rattle.module_image.proofs.Reaching.{forms_reach}

@@ -15,7 +15,7 @@ use Rattle.key_state.proofs.Clashing.{foreign_bytes, foreign_missed, patched_fou
 use Rattle.key_state.proofs.Differing.{IsChangeOf, Told, WantsSame, all_from, changes_from, told_below}
 use Rattle.key_state.proofs.Pieces.{byte_kept, length_put}
 use Rattle.key_state.proofs.Poking.{spelt_change, spelt_there}
-use Rattle.module_image.specs.declared.site.Site.{Site}
+use Rattle.module_parts.specs.declared.site.Site.{Site}
 use Rattle.module_image.specs.Held.{IsBeside}
 use Rattle.module_image.specs.Layout.{site_at}
 use Rattle.module_image.specs.Lent.{IsLaidOut}

@@ -12,7 +12,7 @@ use Rattle.key_state.proofs.Differing.{few_changes}
 use Rattle.key_state.proofs.First.{first_holds, first_of}
 use Rattle.key_state.proofs.Keeping.{commands_keep}
 use Rattle.key_state.proofs.Rewriting.{all_in_text, found_in, written_holds}
-use Rattle.module_image.specs.declared.command.Command.{Command}
+use Rattle.module_parts.specs.declared.command.Command.{Command}
 use Rattle.module_image.specs.Command.{IsCommandOf}
 use Rattle.module_image.specs.Held.{first_states}
 use Rattle.module_image.specs.Module.{IsAccepted, Module, States}

@@ -2,8 +2,8 @@
 use Rattle.std.specs.Prelude.{◌==◌, ℕ, ◌+◌, ◌-◌, Bool, if◌then◌else◌, length, replicate, slice_index, slice_set, Result, Ok, Err}
 use Rattle.key_state.specs.declared.count.CountRefused.{CountRefused}
 use Rattle.key_state.specs.declared.count.CountRefused.TheVariants.{Zero, Greatest, Above}
-use Rattle.module_image.specs.declared.command.Command.{Command}
-use Rattle.module_image.specs.declared.command.Command.TheVariants.{Inc, Dec, Enable, Disable, Target, Trace, TraceAll}
+use Rattle.module_parts.specs.declared.command.Command.{Command}
+use Rattle.module_parts.specs.declared.command.Command.TheVariants.{Inc, Dec, Enable, Disable, Target, Trace, TraceAll}
 use Rattle.module_image.specs.Module.{States}
 
 -- the greatest count of a static key: a signed number of 32 bits (Linux: `atomic_t`)

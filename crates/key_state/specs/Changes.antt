@@ -7,10 +7,10 @@ use Rattle.insn_forms.specs.declared.forms.Change.{Change}
 use Rattle.insn_forms.specs.Same.{same_form}
 use Rattle.key_state.specs.declared.count.CountRefused.{CountRefused}
 use Rattle.key_state.specs.After.{after, greatest_count}
-use Rattle.module_image.specs.declared.command.Command.{Command}
-use Rattle.module_image.specs.declared.key.Key.{Key}
-use Rattle.module_image.specs.declared.key.KeyClass.TheVariants.{Jump as JumpKey}
-use Rattle.module_image.specs.declared.site.Site.{Site}
+use Rattle.module_parts.specs.declared.command.Command.{Command}
+use Rattle.module_parts.specs.declared.key.Key.{Key}
+use Rattle.module_parts.specs.declared.key.KeyClass.TheVariants.{Jump as JumpKey}
+use Rattle.module_parts.specs.declared.site.Site.{Site}
 use Rattle.module_image.specs.Flows.{LeadWell}
 use Rattle.module_image.specs.Layout.{site_at}
 use Rattle.module_image.specs.Module.{Module, States, wants}

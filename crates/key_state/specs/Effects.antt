@@ -4,10 +4,10 @@ use Rattle.key_state.specs.declared.count.CountRefused.{CountRefused}
 use Rattle.key_state.specs.declared.effect.Effect.{Effect}
 use Rattle.key_state.specs.declared.effect.Effect.TheVariants.{Key, Site, Sites}
 use Rattle.key_state.specs.After.{dec_after, disable_after, enable_after, greatest_count, inc_after}
-use Rattle.module_image.specs.declared.command.Command.{Command}
-use Rattle.module_image.specs.declared.command.Command.TheVariants.{Inc, Dec, Enable, Disable, Target, Trace, TraceAll}
-use Rattle.module_image.specs.declared.site.SiteKind.{SiteKind}
-use Rattle.module_image.specs.declared.site.SiteKind.TheVariants.{Jump, Call, Tail, Trace as TraceSite}
+use Rattle.module_parts.specs.declared.command.Command.{Command}
+use Rattle.module_parts.specs.declared.command.Command.TheVariants.{Inc, Dec, Enable, Disable, Target, Trace, TraceAll}
+use Rattle.module_parts.specs.declared.site.SiteKind.{SiteKind}
+use Rattle.module_parts.specs.declared.site.SiteKind.TheVariants.{Jump, Call, Tail, Trace as TraceSite}
 use Rattle.module_image.specs.Module.{States}
 
 -- the count of a static key after a command on it

@@ -1,7 +1,7 @@
 -- Laws of commands and of the changes that they ask for.
 use Rattle.std.specs.Prelude.{◌≡◌, ℕ, List, ◌++◌, length, Ok}
 use Rattle.insn_forms.specs.History.{text_byte}
-use Rattle.module_image.specs.declared.command.Command.{Command}
+use Rattle.module_parts.specs.declared.command.Command.{Command}
 use Rattle.module_image.specs.Command.{IsCommandOf}
 use Rattle.module_image.specs.Held.{first_states}
 use Rattle.module_image.specs.Module.{Module, IsAccepted, States}

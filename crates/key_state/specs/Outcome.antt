@@ -8,8 +8,8 @@ use Rattle.key_state.specs.declared.outcome.Outcome.{Outcome}
 use Rattle.key_state.specs.declared.outcome.Outcome.TheVariants.{Done, Count, Clash}
 use Rattle.key_state.specs.After.{after, refused_count}
 use Rattle.key_state.specs.Changes.{changes, first_foreign}
-use Rattle.module_image.specs.declared.command.Command.{Command}
-use Rattle.module_image.specs.declared.site.Site.{Site}
+use Rattle.module_parts.specs.declared.command.Command.{Command}
+use Rattle.module_parts.specs.declared.site.Site.{Site}
 use Rattle.module_image.specs.Held.{IsBeside}
 use Rattle.module_image.specs.Module.{Module, States, wants}
 use Rattle.module_image.specs.Sites.{code_at}

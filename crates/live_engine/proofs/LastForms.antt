@@ -9,7 +9,7 @@ use Rattle.key_state.proofs.First.{first_of}
 use Rattle.live_text.specs.declared.plan.LivePlan.{LivePlan}
 use Rattle.live_text.specs.declared.plan.LiveSite.{LiveSite}
 use Rattle.live_text.specs.Plan.{chunks_of}
-use Rattle.module_image.specs.declared.command.Command.{Command}
+use Rattle.module_parts.specs.declared.command.Command.{Command}
 use Rattle.module_image.specs.Command.{IsCommandOf}
 use Rattle.module_image.specs.Held.{first_states}
 use Rattle.module_image.specs.Module.{IsAccepted, Module, States}

@@ -7,7 +7,7 @@ use Rattle.key_state.specs.Changes.{AreStatesOf}
 use Rattle.key_state.specs.Outcome.{made_by, settled}
 use Rattle.live_text.specs.declared.plan.LiveSite.{LiveSite}
 use Rattle.live_text.specs.Plan.{IsChange}
-use Rattle.module_image.specs.declared.command.Command.{Command}
+use Rattle.module_parts.specs.declared.command.Command.{Command}
 use Rattle.module_image.specs.Command.{IsCommandOf}
 use Rattle.module_image.specs.Module.{IsAccepted, Module, States}
 use Rattle.poke_batch.specs.Poke.{chunks}

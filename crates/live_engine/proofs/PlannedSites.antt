@@ -6,7 +6,7 @@ use Rattle.std.proofs.lemmas.List.Elements.{All-push, filter-append}
 use Rattle.std.proofs.lemmas.Option.{slice_get-get_or}
 use Rattle.insn_forms.specs.declared.forms.Form.{Form}
 use Rattle.live_text.specs.declared.plan.LiveSite.{LiveSite}
-use Rattle.module_image.specs.declared.site.Site.{Site}
+use Rattle.module_parts.specs.declared.site.Site.{Site}
 use Rattle.module_image.specs.Held.{first_states}
 use Rattle.module_image.specs.Module.{IsAccepted, Module, States, wants}
 use Rattle.module_image.proofs.HeldWanted.{wanted_held}

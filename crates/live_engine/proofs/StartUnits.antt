@@ -6,7 +6,7 @@ use Rattle.insn_forms.specs.declared.forms.Form.TheVariants.{Nop2}
 use Rattle.live_text.specs.declared.plan.LivePlan.{LivePlan}
 use Rattle.live_text.specs.declared.plan.LiveSite.{LiveSite}
 use Rattle.live_text.specs.declared.view.View.{View}
-use Rattle.module_image.specs.declared.site.Site.{Site}
+use Rattle.module_parts.specs.declared.site.Site.{Site}
 use Rattle.module_image.specs.Flows.{HasInsn, HasSite, StartsHaveUnits}
 use Rattle.module_image.specs.Layout.{IsStart}
 use Rattle.module_image.specs.Module.{IsAccepted, Module, layout_of, plain_at}

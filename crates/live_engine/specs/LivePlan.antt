@@ -8,8 +8,8 @@ use Rattle.key_state.specs.Outcome.{made_by, settled}
 use Rattle.live_text.specs.declared.plan.LivePlan.{LivePlan}
 use Rattle.live_text.specs.declared.plan.LiveSite.{LiveSite}
 use Rattle.live_text.specs.Plan.{Stands, chunks_of, form_after}
-use Rattle.module_image.specs.declared.command.Command.{Command}
-use Rattle.module_image.specs.declared.site.Site.{Site}
+use Rattle.module_parts.specs.declared.command.Command.{Command}
+use Rattle.module_parts.specs.declared.site.Site.{Site}
 use Rattle.module_image.specs.Flows.{LeadWell}
 use Rattle.module_image.specs.Held.{first_states}
 use Rattle.module_image.specs.Lent.{IsPatchedSite}

@@ -16,7 +16,7 @@ use Rattle.live_engine.proofs.Updates.{Track, one-number}
 use Rattle.live_text.specs.declared.plan.LivePlan.{LivePlan}
 use Rattle.live_text.specs.declared.plan.LiveSite.{LiveSite}
 use Rattle.live_text.specs.Plan.{chunks_of, form_after}
-use Rattle.module_image.specs.declared.site.Site.{Site}
+use Rattle.module_parts.specs.declared.site.Site.{Site}
 use Rattle.module_image.specs.Held.{first_states}
 use Rattle.module_image.specs.Lent.{IsLaidOut}
 use Rattle.module_image.specs.Module.{IsAccepted, Module, States, wants}

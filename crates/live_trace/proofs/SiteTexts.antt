@@ -2,7 +2,7 @@
 use Rattle.std.proofs.Common.{◌≡◌, ◌≤◌, ◌+◌, ◌++◌, ℕ, List, [], ◌∷◌, length, drop, Result, Ok, Err, Some, refl, sym, ap, ◌∙◌, subst, append-nil}
 use Rattle.std.proofs.lemmas.List.{append_assoc}
 use Rattle.std.specs.List.{slice_get}
-use Rattle.module_image.specs.declared.site.Site.{Site}
+use Rattle.module_parts.specs.declared.site.Site.{Site}
 use Rattle.module_image.specs.SiteLine.{site_line}
 use Rattle.poke_base.specs.declared.host.WriteFail.{WriteFail}
 use Rattle.poke_base.specs.Host.{Outside, Prints}

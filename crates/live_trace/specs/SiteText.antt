@@ -3,7 +3,7 @@ use Rattle.std.specs.Prelude.{◌≡◌, ℕ, if◌then◌else◌, List, [], ◌
 use Rattle.key_state.specs.Outcome.{HoldsWanted, states_after}
 use Rattle.live_engine.specs.LivePlan.{IsPlanOf, last_bytes}
 use Rattle.live_text.specs.declared.plan.LivePlan.{LivePlan}
-use Rattle.module_image.specs.declared.site.Site.{Site}
+use Rattle.module_parts.specs.declared.site.Site.{Site}
 use Rattle.module_image.specs.Held.{first_states}
 use Rattle.module_image.specs.Module.{IsAccepted, Module}
 use Rattle.module_image.specs.SiteLine.{site_line, site_lines}

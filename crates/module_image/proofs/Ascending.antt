@@ -5,7 +5,7 @@ use Rattle.std.specs.Fn.{Called, ComputesKey, Mut}
 use Rattle.std.specs.List.Sorted.{IsStableByKey, IsNonDecreasingBy}
 use Rattle.std.proofs.lemmas.List.Sorted.{IsNonDecreasingBy-from_sort_by_key}
 use Rattle.std.proofs.lemmas.Fn.{always_returns_same}
-use Rattle.module_image.specs.declared.site.Site.{Site}
+use Rattle.module_parts.specs.declared.site.Site.{Site}
 use Rattle.module_image.specs.Sites.{insert_site, ascending}
 
 -- two numbers of which none is below the other, as a stable sort tests it

@@ -7,8 +7,8 @@ use Rattle.insn_forms.specs.declared.forms.Form.{Form}
 use Rattle.insn_forms.specs.declared.forms.Form.TheVariants.{Nop5, Jmp32, Call as CallTo, Ret}
 use Rattle.insn_forms.specs.Spelling.{spell}
 use Rattle.insn_forms.proofs.Spellings.{relative}
-use Rattle.module_image.specs.declared.site.SiteKind.{SiteKind}
-use Rattle.module_image.specs.declared.site.SiteKind.TheVariants.{Jump, Call, Tail, Trace}
+use Rattle.module_parts.specs.declared.site.SiteKind.{SiteKind}
+use Rattle.module_parts.specs.declared.site.SiteKind.TheVariants.{Jump, Call, Tail, Trace}
 use Rattle.module_image.specs.Sites.{call_opcode, holds, is_code, is_early, jump_opcode, opens}
 use Rattle.module_image.specs.Wants.{jump_of, nop_of, wanted}
 

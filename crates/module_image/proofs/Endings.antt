@@ -3,7 +3,7 @@ use Rattle.std.proofs.Common.{◌≡◌, ◌<◌, ◌≤◌, ◌+◌, ◌-◌, �
 use Rattle.std.specs.List.{slice_get}
 use Rattle.std.proofs.lemmas.Bool.{and_parts, and_from, not-true, eqb-true, eq-eqb, cases_lt}
 use Rattle.std.proofs.lemmas.Option.{same_Some, slice_get-get_or}
-use Rattle.module_image.specs.declared.unit.Unit.{Unit}
+use Rattle.module_parts.specs.declared.unit.Unit.{Unit}
 use Rattle.module_image.specs.Ending.{falls_off}
 use Rattle.module_image.specs.Layout.{Layout, unit_at, unit_len, may_end, IsSwept, IsFalling}
 use Rattle.module_image.proofs.Starts.{noted_unit}

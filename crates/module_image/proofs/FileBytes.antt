@@ -1,7 +1,7 @@
 -- What of an accepted module's text is the file's.
 use Rattle.std.proofs.Common.{◌≡◌, ◌∙◌, ◌+◌, ◌-◌, inl, inr, ℕ, zero, suc, false, List, [], ◌∷◌, take, drop, length, Some, slice_get, refl, sym, ap, subst, arith}
 use Rattle.elf_module.specs.Elf.{Elf}
-use Rattle.module_image.specs.declared.site.Site.{Site}
+use Rattle.module_parts.specs.declared.site.Site.{Site}
 use Rattle.module_image.specs.Entries.{base, file_text}
 use Rattle.module_image.specs.Held.{ForeignSitesAreTheFiles, IsBeside, LengthIsTheFiles, OtherBytesAreTheFiles}
 use Rattle.module_image.specs.Keys.{keys}

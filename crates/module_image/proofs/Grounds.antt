@@ -4,10 +4,10 @@ use Rattle.std.proofs.lemmas.Bool.{cases_lt}
 use Rattle.elf_module.specs.Elf.{Elf}
 use Rattle.insn_forms.specs.Spelling.{after}
 use Rattle.x64_subset.specs.declared.insn.Insn.{Insn}
-use Rattle.module_image.specs.declared.refused.Refused.TheVariants.{EndFalls}
-use Rattle.module_image.specs.declared.site.Site.{Site}
-use Rattle.module_image.specs.declared.unit.Unit.{Unit}
-use Rattle.module_image.specs.declared.unit.Unit.TheVariants.{Plain}
+use Rattle.module_parts.specs.declared.refused.Refused.TheVariants.{EndFalls}
+use Rattle.module_parts.specs.declared.site.Site.{Site}
+use Rattle.module_parts.specs.declared.unit.Unit.{Unit}
+use Rattle.module_parts.specs.declared.unit.Unit.TheVariants.{Plain}
 use Rattle.module_image.specs.Aims.{AllLead, jump_aims, key_aims}
 use Rattle.module_image.specs.Entries.{base}
 use Rattle.module_image.specs.Keys.{keys}

@@ -1,12 +1,12 @@
 -- What the parts of acceptance give one another.
 use Rattle.std.proofs.Common.{◌≡◌, ℕ, List, length, slice_get, Some, Result, Ok, Err, sym, ap, ◌∙◌, subst, inl, inr, arith, IfOk, IfErr}
 use Rattle.elf_module.specs.Elf.{Elf}
-use Rattle.module_image.specs.declared.entry.Entry.{Entry}
-use Rattle.module_image.specs.declared.refused.Refused.{Refused}
-use Rattle.module_image.specs.declared.refused.Refused.TheVariants.{Undecoded, BadTarget}
+use Rattle.module_parts.specs.declared.entry.Entry.{Entry}
+use Rattle.module_parts.specs.declared.refused.Refused.{Refused}
+use Rattle.module_parts.specs.declared.refused.Refused.TheVariants.{Undecoded, BadTarget}
 use Rattle.module_image.specs.declared.text.Text.{Text}
-use Rattle.module_image.specs.declared.unit.Aim.{Aim}
-use Rattle.module_image.specs.declared.unit.Unit.{Unit}
+use Rattle.module_parts.specs.declared.unit.Aim.{Aim}
+use Rattle.module_parts.specs.declared.unit.Unit.{Unit}
 use Rattle.module_image.specs.Entries.{entries, file_text}
 use Rattle.module_image.specs.Keys.{keys}
 use Rattle.module_image.specs.Names.{functions}

@@ -6,9 +6,9 @@ use Rattle.std.proofs.lemmas.List.{length-map, take_more}
 use Rattle.std.proofs.lemmas.List.FromFn.{get_or-map-range_with_len}
 use Rattle.std.proofs.lemmas.Option.{get_or_from_slice_get, same_Some, slice_get_within}
 use Rattle.elf_module.specs.Elf.{Elf, SectionRecord, loaded_from}
-use Rattle.module_image.specs.declared.key.Key.{Key}
-use Rattle.module_image.specs.declared.key.KeyClass.{KeyClass}
-use Rattle.module_image.specs.declared.key.KeyClass.TheVariants.{Jump, Call}
+use Rattle.module_parts.specs.declared.key.Key.{Key}
+use Rattle.module_parts.specs.declared.key.KeyClass.{KeyClass}
+use Rattle.module_parts.specs.declared.key.KeyClass.TheVariants.{Jump, Call}
 use Rattle.module_image.specs.First.{NoneBelow}
 use Rattle.module_image.specs.KeyStarts.{start_in}
 use Rattle.module_image.specs.Keys.{IsUnloaded, key_addresses, key_of, keys, loaded_after, start_of}

@@ -3,14 +3,14 @@ use Rattle.std.proofs.Common.{◌≡◌, ◌∙◌, ◌==◌, ◌<◌, ◌+◌, 
 use Rattle.std.proofs.lemmas.Bool.{eqb-true, eq-eqb}
 use Rattle.std.proofs.lemmas.Option.{same_Some, none-some, slice_get_within}
 use Rattle.elf_module.specs.Elf.{Elf}
-use Rattle.module_image.specs.declared.entry.Entry.{Entry}
-use Rattle.module_image.specs.declared.entry.EntryKind.{EntryKind}
-use Rattle.module_image.specs.declared.entry.EntryKind.TheVariants.{Jump as JumpEntry, Call as CallEntry, Tail as TailEntry, Trace as TraceEntry}
-use Rattle.module_image.specs.declared.key.Key.{Key}
-use Rattle.module_image.specs.declared.key.KeyClass.{KeyClass}
-use Rattle.module_image.specs.declared.key.KeyClass.TheVariants.{Jump as JumpKey, Call as CallKey}
-use Rattle.module_image.specs.declared.site.Site.{Site}
-use Rattle.module_image.specs.declared.site.SiteKind.TheVariants.{Call, Tail}
+use Rattle.module_parts.specs.declared.entry.Entry.{Entry}
+use Rattle.module_parts.specs.declared.entry.EntryKind.{EntryKind}
+use Rattle.module_parts.specs.declared.entry.EntryKind.TheVariants.{Jump as JumpEntry, Call as CallEntry, Tail as TailEntry, Trace as TraceEntry}
+use Rattle.module_parts.specs.declared.key.Key.{Key}
+use Rattle.module_parts.specs.declared.key.KeyClass.{KeyClass}
+use Rattle.module_parts.specs.declared.key.KeyClass.TheVariants.{Jump as JumpKey, Call as CallKey}
+use Rattle.module_parts.specs.declared.site.Site.{Site}
+use Rattle.module_parts.specs.declared.site.SiteKind.TheVariants.{Call, Tail}
 use Rattle.module_image.specs.Entries.{base, entries, file_text}
 use Rattle.module_image.specs.Keys.{key_in, with_key, with_named, gathered, key_addresses, place_in, number_of, key_of, keys}
 use Rattle.module_image.specs.Lent.{IsKeyOf, IsKeyed}

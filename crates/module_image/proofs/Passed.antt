@@ -2,10 +2,10 @@
 use Rattle.std.proofs.Common.{◌≡◌, ◌<◌, ◌≤◌, ◌+◌, ℕ, List, length, None, subst, arith, refl, inl, inr}
 use Rattle.std.proofs.lemmas.Bool.{cases_lt}
 use Rattle.elf_module.specs.Elf.{Elf}
-use Rattle.module_image.specs.declared.entry.Entry.{Entry}
-use Rattle.module_image.specs.declared.key.Key.{Key}
-use Rattle.module_image.specs.declared.refused.Refused.{Refused}
-use Rattle.module_image.specs.declared.refused.Refused.TheVariants.{TextCount, SiteCount, SiteOutside, SiteLength, KeyOutside, KeyState, NoReach, TracerMissing}
+use Rattle.module_parts.specs.declared.entry.Entry.{Entry}
+use Rattle.module_parts.specs.declared.key.Key.{Key}
+use Rattle.module_parts.specs.declared.refused.Refused.{Refused}
+use Rattle.module_parts.specs.declared.refused.Refused.TheVariants.{TextCount, SiteCount, SiteOutside, SiteLength, KeyOutside, KeyState, NoReach, TracerMissing}
 use Rattle.module_image.specs.First.{HasNone, IsFirst}
 use Rattle.module_image.specs.Entries.{entries}
 use Rattle.module_image.specs.Keys.{keys}

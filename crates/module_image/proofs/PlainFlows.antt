@@ -8,8 +8,8 @@ use Rattle.x64_subset.specs.declared.proc.Proc.{Proc}
 use Rattle.x64_subset.specs.declared.proc.Life.TheVariants.{Halted, Fault}
 use Rattle.x64_subset.specs.declared.proc.FaultKind.TheVariants.{Undefined}
 use Rattle.x64_subset.specs.Effect.{at_ip, does, extended, holds, next, register}
-use Rattle.module_image.specs.declared.unit.Unit.{Unit}
-use Rattle.module_image.specs.declared.unit.Unit.TheVariants.{Nothing, Plain, Site as PatchedSite}
+use Rattle.module_parts.specs.declared.unit.Unit.{Unit}
+use Rattle.module_parts.specs.declared.unit.Unit.TheVariants.{Nothing, Plain, Site as PatchedSite}
 use Rattle.module_image.specs.Aims.{AllPlainReach, insn_target, plain_target}
 use Rattle.module_image.specs.Flows.{Flows, PlainInstructionsFlow}
 use Rattle.module_image.specs.Layout.{Layout, IsStart, IsSwept, never_falls, text_end, unit_at}

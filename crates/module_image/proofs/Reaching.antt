@@ -8,10 +8,10 @@ use Rattle.insn_forms.specs.declared.forms.Form.TheVariants.{Nop2, Nop5, Jmp8, J
 use Rattle.insn_forms.specs.Displacement.{displacement}
 use Rattle.insn_forms.specs.Spelling.{after, spell}
 use Rattle.insn_forms.proofs.Spellings.{length-spell}
-use Rattle.module_image.specs.declared.site.Site.{Site}
-use Rattle.module_image.specs.declared.site.SiteKind.{SiteKind}
-use Rattle.module_image.specs.declared.site.SiteKind.TheVariants.{Jump, Call, Tail, Trace}
-use Rattle.module_image.specs.declared.unit.Unit.{Unit}
+use Rattle.module_parts.specs.declared.site.Site.{Site}
+use Rattle.module_parts.specs.declared.site.SiteKind.{SiteKind}
+use Rattle.module_parts.specs.declared.site.SiteKind.TheVariants.{Jump, Call, Tail, Trace}
+use Rattle.module_parts.specs.declared.unit.Unit.{Unit}
 use Rattle.module_image.specs.Early.{HasCallLen}
 use Rattle.module_image.specs.Flows.{LeadWell}
 use Rattle.module_image.specs.Held.{WantedFormsReach}

@@ -10,8 +10,8 @@ use Rattle.insn_forms.specs.Spelling.{after}
 use Rattle.x64_subset.specs.declared.proc.Proc.{Proc}
 use Rattle.x64_subset.specs.Effect.{at_ip, does}
 use Rattle.x64_subset.specs.Whole.{insn_of, name_len, whole}
-use Rattle.module_image.specs.declared.site.SiteKind.{SiteKind}
-use Rattle.module_image.specs.declared.site.SiteKind.TheVariants.{Jump, Call, Tail, Trace}
+use Rattle.module_parts.specs.declared.site.SiteKind.{SiteKind}
+use Rattle.module_parts.specs.declared.site.SiteKind.TheVariants.{Jump, Call, Tail, Trace}
 use Rattle.module_image.specs.Early.{HasCallLen}
 use Rattle.module_image.specs.Flows.{Flows, PatchedSitesFlow}
 use Rattle.module_image.specs.Layout.{Layout, IsStart, is_tail}

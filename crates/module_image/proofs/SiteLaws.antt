@@ -6,11 +6,11 @@ use Rattle.std.proofs.lemmas.Option.{none-some, same_Some, slice_get-get_or}
 use Rattle.elf_module.specs.Elf.{Elf}
 use Rattle.x64_subset.specs.Reading.{Answer, read}
 use Rattle.x64_subset.proofs.WhatIsRead.{what_is_read}
-use Rattle.module_image.specs.declared.entry.Entry.{Entry}
-use Rattle.module_image.specs.declared.entry.EntryKind.{EntryKind}
-use Rattle.module_image.specs.declared.entry.EntryKind.TheVariants.{Jump as JumpEntry, Call as CallEntry, Tail as TailEntry, Trace as TraceEntry}
-use Rattle.module_image.specs.declared.refused.Refused.TheVariants.{SiteOverlap}
-use Rattle.module_image.specs.declared.site.Site.{Site}
+use Rattle.module_parts.specs.declared.entry.Entry.{Entry}
+use Rattle.module_parts.specs.declared.entry.EntryKind.{EntryKind}
+use Rattle.module_parts.specs.declared.entry.EntryKind.TheVariants.{Jump as JumpEntry, Call as CallEntry, Tail as TailEntry, Trace as TraceEntry}
+use Rattle.module_parts.specs.declared.refused.Refused.TheVariants.{SiteOverlap}
+use Rattle.module_parts.specs.declared.site.Site.{Site}
 use Rattle.module_image.specs.Early.{HasCallLen, HaveCallLens}
 use Rattle.module_image.specs.Entries.{answer_len, length_at}
 use Rattle.module_image.specs.First.{HasNone}

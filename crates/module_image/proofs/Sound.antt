@@ -1,11 +1,11 @@
 -- What was found of a module is sound.
 use Rattle.std.proofs.Common.{◌≡◌, ◌≤◌, ℕ, List, [], ◌∷◌, length, map, refl, sym, ap, ◌∙◌, subst, arith}
 use Rattle.elf_module.specs.Elf.{Elf}
-use Rattle.module_image.specs.declared.entry.Entry.{Entry}
+use Rattle.module_parts.specs.declared.entry.Entry.{Entry}
 use Rattle.module_image.specs.declared.finding.Found.{Found}
-use Rattle.module_image.specs.declared.key.KeyClass.TheVariants.{Jump, Call}
-use Rattle.module_image.specs.declared.site.Site.{Site}
-use Rattle.module_image.specs.declared.unit.Aim.{Aim}
+use Rattle.module_parts.specs.declared.key.KeyClass.TheVariants.{Jump, Call}
+use Rattle.module_parts.specs.declared.site.Site.{Site}
+use Rattle.module_parts.specs.declared.unit.Aim.{Aim}
 use Rattle.module_image.specs.Aims.{function_aim}
 use Rattle.module_image.specs.Early.{HaveCallLens}
 use Rattle.module_image.specs.Entries.{base, entries, file_text, text_index}

@@ -3,7 +3,7 @@ use Rattle.std.proofs.Common.{◌≡◌, ◌∙◌, ◌⊎◌, inl, inr, ℕ, Li
 use Rattle.std.proofs.lemmas.Bool.{le-ltb}
 use Rattle.std.proofs.lemmas.Option.{get_or_from_slice_get, slice_get-map}
 use Rattle.elf_module.specs.Elf.{Elf}
-use Rattle.module_image.specs.declared.key.Key.{Key}
+use Rattle.module_parts.specs.declared.key.Key.{Key}
 use Rattle.module_image.specs.Keys.{keys}
 use Rattle.module_image.specs.Layout.{IsStart}
 use Rattle.module_image.specs.Module.{IsAccepted, IsModule, Module, layout_of, plain_of}

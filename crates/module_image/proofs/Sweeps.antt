@@ -7,8 +7,8 @@ use Rattle.std.proofs.lemmas.List.{length-set}
 use Rattle.std.proofs.lemmas.Option.{same_Some, slice_get_within}
 use Rattle.x64_subset.specs.declared.insn.Insn.{Insn}
 use Rattle.x64_subset.specs.Reading.{Answer, read}
-use Rattle.module_image.specs.declared.unit.Unit.{Unit}
-use Rattle.module_image.specs.declared.unit.Unit.TheVariants.{Nothing, Plain}
+use Rattle.module_parts.specs.declared.unit.Unit.{Unit}
+use Rattle.module_parts.specs.declared.unit.Unit.TheVariants.{Nothing, Plain}
 use Rattle.module_image.specs.Layout.{Layout, is_patched_at, no_site_between, site_at, text_end, plain_unit, unit_of, unit_at, len_of, unit_len, IsStart, IsNoted, IsSwept}
 use Rattle.module_image.specs.Layout.IsStart.{the_first, the_end}
 use Rattle.module_image.specs.Sweeping.{HasSites, is_nothing, unit_of_site}

@@ -6,7 +6,7 @@ use Rattle.elf_module.specs.Elf.{Elf}
 use Rattle.insn_forms.specs.declared.forms.Form.{Form}
 use Rattle.insn_forms.specs.Spelling.{size, spell}
 use Rattle.insn_forms.proofs.Spellings.{length-spell}
-use Rattle.module_image.specs.declared.site.Site.{Site}
+use Rattle.module_parts.specs.declared.site.Site.{Site}
 use Rattle.module_image.specs.Early.{HasCallLen, HaveCallLens}
 use Rattle.module_image.specs.Entries.{base, file_text}
 use Rattle.module_image.specs.Keys.{keys}

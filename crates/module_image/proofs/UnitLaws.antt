@@ -5,9 +5,9 @@ use Rattle.std.proofs.lemmas.Bool.{cases_lt, cases_order, cases_eq, le-ltb, leb-
 use Rattle.std.proofs.lemmas.Option.{none-some, same_Some}
 use Rattle.x64_subset.specs.declared.insn.Insn.{Insn}
 use Rattle.x64_subset.specs.Reading.{Answer, read}
-use Rattle.module_image.specs.declared.site.Site.{Site}
-use Rattle.module_image.specs.declared.unit.Unit.{Unit}
-use Rattle.module_image.specs.declared.unit.Unit.TheVariants.{Nothing, Plain, Site as PatchedSite}
+use Rattle.module_parts.specs.declared.site.Site.{Site}
+use Rattle.module_parts.specs.declared.unit.Unit.{Unit}
+use Rattle.module_parts.specs.declared.unit.Unit.TheVariants.{Nothing, Plain, Site as PatchedSite}
 use Rattle.module_image.specs.Layout.{Layout, is_patched_at, is_clear, no_site_between, site_at, text_end, plain_unit, unit_of, unit_at, len_of, unit_len, IsStart, IsSwept}
 use Rattle.module_image.specs.Layout.IsStart.{the_first, the_end}
 use Rattle.module_image.specs.Sweeping.{site_in}

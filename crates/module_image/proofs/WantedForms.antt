@@ -2,8 +2,8 @@
 use Rattle.std.proofs.Common.{◌≡◌, ◌∙◌, ◌==◌, ℕ, ◌⊎◌, inl, inr, Bool, true, false, cond, refl, sym, ap}
 use Rattle.insn_forms.specs.declared.forms.Form.TheVariants.{Nop5, Jmp32, Call as CallTo, Ret}
 use Rattle.insn_forms.specs.Spelling.{size}
-use Rattle.module_image.specs.declared.site.SiteKind.{SiteKind}
-use Rattle.module_image.specs.declared.site.SiteKind.TheVariants.{Jump, Call, Tail, Trace}
+use Rattle.module_parts.specs.declared.site.SiteKind.{SiteKind}
+use Rattle.module_parts.specs.declared.site.SiteKind.TheVariants.{Jump, Call, Tail, Trace}
 use Rattle.module_image.specs.Early.{HasCallLen}
 use Rattle.module_image.specs.Wants.{called, jump_of, nop_of, tail_called, traced, wanted}
 

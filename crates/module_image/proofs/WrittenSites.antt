@@ -4,7 +4,7 @@ use Rattle.std.specs.Option.{unwrap_or}
 use Rattle.std.proofs.lemmas.Option.{same_Some, none-some}
 use Rattle.insn_forms.specs.Spelling.{size, spell}
 use Rattle.insn_forms.proofs.Spellings.{length-spell}
-use Rattle.module_image.specs.declared.site.Site.{Site}
+use Rattle.module_parts.specs.declared.site.Site.{Site}
 use Rattle.module_image.specs.Early.{HasCallLen, HaveCallLens}
 use Rattle.module_image.specs.Sites.{code_at, early_form, form_code, put_at, site_written, written}
 use Rattle.module_image.specs.Text.{AreApart, AreInside, IsInside}

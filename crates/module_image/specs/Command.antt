@@ -1,8 +1,8 @@
 -- Which commands are of a module.
 use Rattle.std.specs.Prelude.{◌≡◌, ◌⊎◌, ℕ, ⊤, List, Some}
-use Rattle.module_image.specs.declared.command.Command.{Command}
-use Rattle.module_image.specs.declared.command.Command.TheVariants.{Inc, Dec, Enable, Disable, Target, Trace, TraceAll}
-use Rattle.module_image.specs.declared.key.KeyClass.TheVariants.{Jump as JumpKey, Call as CallKey}
+use Rattle.module_parts.specs.declared.command.Command.{Command}
+use Rattle.module_parts.specs.declared.command.Command.TheVariants.{Inc, Dec, Enable, Disable, Target, Trace, TraceAll}
+use Rattle.module_parts.specs.declared.key.KeyClass.TheVariants.{Jump as JumpKey, Call as CallKey}
 use Rattle.module_image.specs.Layout.{IsStart}
 use Rattle.module_image.specs.Lent.{IsKeyOf, IsTraceSite}
 use Rattle.module_image.specs.Module.{Module, IsAccepted, layout_of}

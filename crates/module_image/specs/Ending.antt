@@ -1,6 +1,6 @@
 -- The unit at the end of a text.
 use Rattle.std.specs.Prelude.{◌==◌, ◌&&◌, ℕ, ◌-◌, Bool, not, length}
-use Rattle.module_image.specs.declared.unit.Unit.{Unit}
+use Rattle.module_parts.specs.declared.unit.Unit.{Unit}
 use Rattle.module_image.specs.Layout.{Layout, unit_len, may_end}
 
 -- a unit at an offset ends with the text, and another may follow it

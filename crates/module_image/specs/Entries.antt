@@ -7,9 +7,9 @@ use Rattle.site_tables.specs.declared.entries.JumpEntry.{JumpEntry}
 use Rattle.site_tables.specs.declared.entries.CallSite.{CallSite}
 use Rattle.site_tables.specs.Tables.{jumps_in, calls_in, traces_in}
 use Rattle.x64_subset.specs.Reading.{Answer, read}
-use Rattle.module_image.specs.declared.entry.Entry.{Entry}
-use Rattle.module_image.specs.declared.entry.EntryKind.{EntryKind}
-use Rattle.module_image.specs.declared.entry.EntryKind.TheVariants.{Jump, Call, Tail, Trace}
+use Rattle.module_parts.specs.declared.entry.Entry.{Entry}
+use Rattle.module_parts.specs.declared.entry.EntryKind.{EntryKind}
+use Rattle.module_parts.specs.declared.entry.EntryKind.TheVariants.{Jump, Call, Tail, Trace}
 
 -- the section that holds the text
 abbrev pub text_name : List ℕ

@@ -6,9 +6,9 @@ use Rattle.x64_subset.specs.declared.proc.Proc.{Proc}
 use Rattle.x64_subset.specs.declared.proc.Life.TheVariants.{Running}
 use Rattle.x64_subset.specs.Effect.{does}
 use Rattle.x64_subset.specs.Whole.{whole}
-use Rattle.module_image.specs.declared.key.Key.{Key}
-use Rattle.module_image.specs.declared.key.KeyClass.TheVariants.{Call as CallKey}
-use Rattle.module_image.specs.declared.site.Site.{Site}
+use Rattle.module_parts.specs.declared.key.Key.{Key}
+use Rattle.module_parts.specs.declared.key.KeyClass.TheVariants.{Call as CallKey}
+use Rattle.module_parts.specs.declared.site.Site.{Site}
 use Rattle.module_image.specs.Layout.{Layout, IsStart, site_at}
 use Rattle.module_image.specs.Lent.{IsPatchedSite}
 use Rattle.module_image.specs.Names.{value_of}

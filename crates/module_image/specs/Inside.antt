@@ -1,7 +1,7 @@
 -- What the fields of an accepted module mean.
 use Rattle.std.specs.Prelude.{◌≡◌, ◌<◌, ◌≤◌, ◌+◌, ◌^◌, length, None}
 use Rattle.module_image.specs.declared.image.Image.TheInside.{Inside}
-use Rattle.module_image.specs.declared.key.KeyClass.TheVariants.{Jump as JumpKey, Call as CallKey}
+use Rattle.module_parts.specs.declared.key.KeyClass.TheVariants.{Jump as JumpKey, Call as CallKey}
 use Rattle.module_image.specs.First.{HasNone}
 use Rattle.module_image.specs.Layout.{IsSwept}
 use Rattle.module_image.specs.Lent.{KeysAreKnown, NamesAreKnown}

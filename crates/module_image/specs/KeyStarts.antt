@@ -3,8 +3,8 @@ use Rattle.std.specs.Prelude.{ℕ, List, map, slice_index_or, Option, None}
 use Rattle.std.specs.List.{range_with_len}
 use Rattle.std.specs.Option.{unwrap_or}
 use Rattle.byteorder.specs.Endian.{little_number}
-use Rattle.module_image.specs.declared.key.KeyClass.{KeyClass}
-use Rattle.module_image.specs.declared.key.KeyClass.TheVariants.{Jump, Call}
+use Rattle.module_parts.specs.declared.key.KeyClass.{KeyClass}
+use Rattle.module_parts.specs.declared.key.KeyClass.TheVariants.{Jump, Call}
 
 -- the number in the first n bytes, the lowest first; one that isn't loaded counts as 0
 abbrev pub number_in : ℕ → List (Option ℕ) → ℕ

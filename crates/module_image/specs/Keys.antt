@@ -4,12 +4,12 @@ use Rattle.std.specs.List.{range_with_len}
 use Rattle.std.specs.Option.{unwrap_or}
 use Rattle.byteorder.specs.Endian.{little_number}
 use Rattle.elf_module.specs.Elf.{Elf, SectionRecord, loaded}
-use Rattle.module_image.specs.declared.entry.Entry.{Entry}
-use Rattle.module_image.specs.declared.entry.EntryKind.{EntryKind}
-use Rattle.module_image.specs.declared.entry.EntryKind.TheVariants.{Jump as JumpEntry, Call as CallEntry, Tail as TailEntry, Trace as TraceEntry}
-use Rattle.module_image.specs.declared.key.KeyClass.{KeyClass}
-use Rattle.module_image.specs.declared.key.KeyClass.TheVariants.{Jump, Call}
-use Rattle.module_image.specs.declared.key.Key.{Key}
+use Rattle.module_parts.specs.declared.entry.Entry.{Entry}
+use Rattle.module_parts.specs.declared.entry.EntryKind.{EntryKind}
+use Rattle.module_parts.specs.declared.entry.EntryKind.TheVariants.{Jump as JumpEntry, Call as CallEntry, Tail as TailEntry, Trace as TraceEntry}
+use Rattle.module_parts.specs.declared.key.KeyClass.{KeyClass}
+use Rattle.module_parts.specs.declared.key.KeyClass.TheVariants.{Jump, Call}
+use Rattle.module_parts.specs.declared.key.Key.{Key}
 use Rattle.module_image.specs.Entries.{entries}
 
 -- the key of a class that an entry names

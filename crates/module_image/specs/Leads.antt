@@ -1,12 +1,12 @@
 -- Where single units, sites and keys lead, and whether a unit begins there.
 use Rattle.std.specs.Prelude.{◌≡◌, ◌==◌, ℕ, ◌-◌, Bool, true, false, nat_lt, if◌then◌else◌, List, slice_get, Option, Some, None, IfSome}
-use Rattle.module_image.specs.declared.key.KeyClass.{KeyClass}
-use Rattle.module_image.specs.declared.key.KeyClass.TheVariants.{Jump as JumpKey, Call as CallKey}
-use Rattle.module_image.specs.declared.site.SiteKind.{SiteKind}
-use Rattle.module_image.specs.declared.site.SiteKind.TheVariants.{Jump, Call, Tail, Trace}
-use Rattle.module_image.specs.declared.unit.Unit.{Unit}
-use Rattle.module_image.specs.declared.unit.Unit.TheVariants.{Nothing, Plain, Site as PatchedSite}
-use Rattle.module_image.specs.declared.unit.Aim.{Aim}
+use Rattle.module_parts.specs.declared.key.KeyClass.{KeyClass}
+use Rattle.module_parts.specs.declared.key.KeyClass.TheVariants.{Jump as JumpKey, Call as CallKey}
+use Rattle.module_parts.specs.declared.site.SiteKind.{SiteKind}
+use Rattle.module_parts.specs.declared.site.SiteKind.TheVariants.{Jump, Call, Tail, Trace}
+use Rattle.module_parts.specs.declared.unit.Unit.{Unit}
+use Rattle.module_parts.specs.declared.unit.Unit.TheVariants.{Nothing, Plain, Site as PatchedSite}
+use Rattle.module_parts.specs.declared.unit.Aim.{Aim}
 use Rattle.module_image.specs.Layout.{Layout, IsStart}
 
 -- a unit begins at an address, by a list of units

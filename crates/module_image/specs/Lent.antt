@@ -3,12 +3,12 @@
 use Rattle.std.specs.Prelude.{◌≡◌, ◌<◌, ◌≤◌, ℕ, ◌+◌, ◌^◌, ⊤, true, false, List, length, slice_get, Some, IsSome}
 use Rattle.x64_subset.specs.declared.insn.Insn.{Insn}
 use Rattle.x64_subset.specs.Subset.{is_listed}
-use Rattle.module_image.specs.declared.key.Key.{Key}
-use Rattle.module_image.specs.declared.key.KeyClass.{KeyClass}
-use Rattle.module_image.specs.declared.key.KeyClass.TheVariants.{Jump as JumpKey, Call as CallKey}
-use Rattle.module_image.specs.declared.site.Site.{Site}
-use Rattle.module_image.specs.declared.site.SiteKind.{SiteKind}
-use Rattle.module_image.specs.declared.site.SiteKind.TheVariants.{Jump, Call, Tail, Trace}
+use Rattle.module_parts.specs.declared.key.Key.{Key}
+use Rattle.module_parts.specs.declared.key.KeyClass.{KeyClass}
+use Rattle.module_parts.specs.declared.key.KeyClass.TheVariants.{Jump as JumpKey, Call as CallKey}
+use Rattle.module_parts.specs.declared.site.Site.{Site}
+use Rattle.module_parts.specs.declared.site.SiteKind.{SiteKind}
+use Rattle.module_parts.specs.declared.site.SiteKind.TheVariants.{Jump, Call, Tail, Trace}
 use Rattle.module_image.specs.Layout.{IsStart}
 use Rattle.module_image.specs.Module.{Module, IsAccepted, layout_of, trace_site_of, tracer_of}
 use Rattle.module_image.specs.Names.{Named, value_of}

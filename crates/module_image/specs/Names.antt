@@ -2,10 +2,10 @@
 use Rattle.std.specs.Prelude.{◌==◌, ◌&&◌, ℕ, ◌+◌, ◌%◌, Bool, not, nat_lt, if◌then◌else◌, List, [], ◌∷◌, length, codes, Option, Some, None}
 use Rattle.std.specs.Str.{bytes_eq}
 use Rattle.elf_module.specs.Elf.{Elf, SymbolRecord}
-use Rattle.module_image.specs.declared.key.KeyClass.{KeyClass}
+use Rattle.module_parts.specs.declared.key.KeyClass.{KeyClass}
 use Rattle.module_image.specs.Entries.{text_index}
 use Rattle.module_image.specs.Keys.{key_addresses, place_in}
-use Rattle.module_image.specs.declared.key.KeyClass.TheVariants.{Jump, Call}
+use Rattle.module_parts.specs.declared.key.KeyClass.TheVariants.{Jump, Call}
 
 -- a name, and what it stands for: a function's address, or a key's number
 abbrev pub Named : Type 0

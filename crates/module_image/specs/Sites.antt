@@ -6,14 +6,14 @@ use Rattle.elf_module.specs.Elf.{Elf}
 use Rattle.insn_forms.specs.declared.forms.Form.{Form}
 use Rattle.insn_forms.specs.declared.forms.Form.TheVariants.{Nop5, Ret}
 use Rattle.insn_forms.specs.Spelling.{spell}
-use Rattle.module_image.specs.declared.entry.Entry.{Entry}
-use Rattle.module_image.specs.declared.entry.EntryKind.{EntryKind}
-use Rattle.module_image.specs.declared.entry.EntryKind.TheVariants.{Jump as JumpEntry, Call as CallEntry, Tail as TailEntry, Trace as TraceEntry}
-use Rattle.module_image.specs.declared.key.Key.{Key}
-use Rattle.module_image.specs.declared.key.KeyClass.TheVariants.{Jump as JumpKey, Call as CallKey}
-use Rattle.module_image.specs.declared.site.Site.{Site}
-use Rattle.module_image.specs.declared.site.SiteKind.{SiteKind}
-use Rattle.module_image.specs.declared.site.SiteKind.TheVariants.{Jump, Call, Tail, Trace}
+use Rattle.module_parts.specs.declared.entry.Entry.{Entry}
+use Rattle.module_parts.specs.declared.entry.EntryKind.{EntryKind}
+use Rattle.module_parts.specs.declared.entry.EntryKind.TheVariants.{Jump as JumpEntry, Call as CallEntry, Tail as TailEntry, Trace as TraceEntry}
+use Rattle.module_parts.specs.declared.key.Key.{Key}
+use Rattle.module_parts.specs.declared.key.KeyClass.TheVariants.{Jump as JumpKey, Call as CallKey}
+use Rattle.module_parts.specs.declared.site.Site.{Site}
+use Rattle.module_parts.specs.declared.site.SiteKind.{SiteKind}
+use Rattle.module_parts.specs.declared.site.SiteKind.TheVariants.{Jump, Call, Tail, Trace}
 use Rattle.module_image.specs.Entries.{entries, base, file_text, length_at}
 use Rattle.module_image.specs.Keys.{key_addresses, number_of, keys}
 use Rattle.module_image.specs.Wants.{nop_of, jump_of, state_of, wanted}

@@ -1,9 +1,9 @@
 -- The way through a text: the units that are there before it, and why it can't be followed.
 use Rattle.std.specs.Prelude.{◌≡◌, ◌<◌, ◌≤◌, ◌⊎◌, ℕ, ◌+◌, Bool, true, false, List, length, slice_get, Option, Some, None}
-use Rattle.module_image.specs.declared.refused.Refused.{Refused}
-use Rattle.module_image.specs.declared.refused.Refused.TheVariants.{Undecoded, NoMemory}
-use Rattle.module_image.specs.declared.unit.Unit.{Unit}
-use Rattle.module_image.specs.declared.unit.Unit.TheVariants.{Nothing, Plain, Site as PatchedSite}
+use Rattle.module_parts.specs.declared.refused.Refused.{Refused}
+use Rattle.module_parts.specs.declared.refused.Refused.TheVariants.{Undecoded, NoMemory}
+use Rattle.module_parts.specs.declared.unit.Unit.{Unit}
+use Rattle.module_parts.specs.declared.unit.Unit.TheVariants.{Nothing, Plain, Site as PatchedSite}
 use Rattle.module_image.specs.Layout.{Layout, IsUndecoded, site_at}
 
 -- the unit that a site is, and nothing where there is none

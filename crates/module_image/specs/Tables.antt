@@ -7,7 +7,7 @@ use Rattle.site_tables.specs.declared.tables.Tables.{Tables}
 use Rattle.site_tables.specs.Entry.{entry_size, jump_in, call_in, trace_in}
 use Rattle.site_tables.specs.Found.{section_in}
 use Rattle.site_tables.specs.Tables.{entries_in}
-use Rattle.module_image.specs.declared.entry.Entry.{Entry}
+use Rattle.module_parts.specs.declared.entry.Entry.{Entry}
 use Rattle.module_image.specs.Entries.{is_text, jump_entry, call_entry, trace_entry}
 
 -- there is a section, and it has the text's name

@@ -3,7 +3,7 @@ use Rattle.std.specs.Prelude.{◌≡◌, ◌<◌, ◌≤◌, ℕ, ◌+◌, ◌^�
 use Rattle.elf_module.specs.Elf.{Elf}
 use Rattle.module_image.specs.declared.text.Text.{Text}
 use Rattle.module_image.specs.declared.text.Code.{Code}
-use Rattle.module_image.specs.declared.site.Site.{Site}
+use Rattle.module_parts.specs.declared.site.Site.{Site}
 use Rattle.module_image.specs.Entries.{base, text_index, file_text}
 use Rattle.module_image.specs.Layout.{Layout, laid}
 

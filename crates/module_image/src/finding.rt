@@ -1,6 +1,6 @@
 //! The sites and keys of a file.
 ghost use Rattle.std.specs.Prelude.{◌≡◌, IfOk};
-ghost use Rattle.module_image.specs.declared.key.KeyClass.TheVariants.{Jump, Call};
+ghost use Rattle.module_parts.specs.declared.key.KeyClass.TheVariants.{Jump, Call};
 ghost use Rattle.module_image.specs.Keys.{key_addresses, keys};
 ghost use Rattle.module_image.specs.Refusals.{Passes, Tries, past_site_overlap, past_key_state};
 

@@ -2,10 +2,10 @@
 ghost use Rattle.std.specs.Prelude.{◌≡◌, ◌≤◌, ◌<◌, ◌+◌, ◌++◌, ℕ, Some, [], length, map, slice_get, IfOk, IfErr, OnOk};
 ghost use Rattle.module_image.specs.Keys.{key_in, with_key, with_named, gathered, place_in, number_of};
 ghost use Rattle.module_image.specs.KeyList.{IsRising};
-ghost use Rattle.module_image.specs.declared.key.Key.{Key};
-ghost use Rattle.module_image.specs.declared.key.KeyClass.{KeyClass};
-ghost use Rattle.module_image.specs.declared.key.KeyClass.TheVariants.{Jump, Call};
-ghost use Rattle.module_image.specs.declared.refused.Refused.TheVariants.{NoMemory};
+ghost use Rattle.module_parts.specs.declared.key.Key.{Key};
+ghost use Rattle.module_parts.specs.declared.key.KeyClass.{KeyClass};
+ghost use Rattle.module_parts.specs.declared.key.KeyClass.TheVariants.{Jump, Call};
+ghost use Rattle.module_parts.specs.declared.refused.Refused.TheVariants.{NoMemory};
 
 use crate::{Entry, EntryKind, KeyClass, Refused};
 use std::alloc::Global;

@@ -5,7 +5,7 @@ ghost use Rattle.std.specs.Option.{unwrap_or};
 ghost use Rattle.module_image.specs.Keys.{IsUnloaded, key_addresses, key_of, keys};
 ghost use Rattle.module_image.specs.KeyStarts.{start_in};
 ghost use Rattle.module_image.specs.Refusals.{Passes, Tries, past_key_outside, past_site_overlap};
-ghost use Rattle.module_image.specs.declared.key.KeyClass.TheVariants.{Jump, Call};
+ghost use Rattle.module_parts.specs.declared.key.KeyClass.TheVariants.{Jump, Call};
 
 use crate::key_list::KeyAddresses;
 use crate::{Key, KeyClass, Refused};

@@ -1,6 +1,6 @@
 //! The tables of a file, and their entries in one list.
 ghost use Rattle.std.specs.Prelude.{◌≡◌, ◌≤◌, ◌+◌, ◌*◌, ◌++◌, length, IfOk, IfErr, OnOk};
-ghost use Rattle.module_image.specs.declared.refused.Refused.TheVariants.{NoMemory};
+ghost use Rattle.module_parts.specs.declared.refused.Refused.TheVariants.{NoMemory};
 ghost use Rattle.site_tables.specs.Entry.{entry_size};
 ghost use Rattle.site_tables.specs.Found.{AreWhole, IsWhole, section_in};
 ghost use Rattle.module_image.specs.Entries.{entries, jump_entry, call_entry};

@@ -1,6 +1,6 @@
 //! What begins at an address, by the table of units.
 ghost use Rattle.std.specs.Prelude.{◌≡◌, ◌-◌, nat_lt, if◌then◌else◌, slice_get, None};
-ghost use Rattle.module_image.specs.Leads.{begins_at};
+ghost use Rattle.module_image.specs.Leads.{begins_at, is_unit};
 ghost use Rattle.module_image.specs.Module.{plain_of};
 ghost use Rattle.module_image.specs.Sweeping.{site_in};
 
@@ -53,7 +53,14 @@ pub fn begins_at(base: u64, units: &[Unit], at: u64) -> bool
     if at < base {
         return false;
     }
-    match units.get((at - base) as usize).copied() {
+    is_unit(units.get((at - base) as usize).copied())
+}
+
+/// Whether what was found in a table of units is a unit.
+fn is_unit(unit: Option<Unit>) -> bool
+    ensures { result ≡ is_unit unit }
+{
+    match unit {
         Some(Unit::Plain(_, _)) => true,
         Some(Unit::Site(_)) => true,
         Some(Unit::Nothing) => false,

@@ -2,7 +2,7 @@
 ghost use Rattle.std.specs.Prelude.{◌≡◌, ◌<◌, ◌+◌, ◌++◌, ℕ, List, length, IfErr, OnErr, OnOk};
 ghost use Rattle.module_image.specs.Names.{value_of};
 ghost use Rattle.module_image.specs.Naming.{named_by};
-ghost use Rattle.module_image.specs.declared.refused.Refused.TheVariants.{NoMemory};
+ghost use Rattle.module_parts.specs.declared.refused.Refused.TheVariants.{NoMemory};
 
 use crate::Refused;
 use crate::names::Names;

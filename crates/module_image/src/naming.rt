@@ -5,7 +5,7 @@ ghost use Rattle.elf_module.specs.Elf.{SymbolRecord, entry_of, symbol_of};
 ghost use Rattle.module_image.specs.KeyList.{IsRising};
 ghost use Rattle.module_image.specs.Names.{is_function};
 ghost use Rattle.module_image.specs.SymbolNames.{AreNames, IsGiven, IsNamed, function_of, key_number, nameless};
-ghost use Rattle.module_image.specs.declared.refused.Refused.TheVariants.{NoMemory};
+ghost use Rattle.module_parts.specs.declared.refused.Refused.TheVariants.{NoMemory};
 
 use crate::Refused;
 use crate::key_list::{KeyAddresses, place_of};

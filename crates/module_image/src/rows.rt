@@ -1,6 +1,8 @@
 //! The conditions on a module's sites and keys, each tried where those before it don't hold. Where the code has no
 //! use for `file`, the contract speaks of it.
-ghost use Rattle.std.specs.Prelude.{◌≡◌, ◌≤◌, ◌<◌, ◌+◌, ◌^◌, ◌↔◌, length, IsTrue, OnOk};
+ghost use Rattle.std.specs.Prelude.{◌≡◌, ◌≤◌, ◌<◌, ◌+◌, ◌^◌, ◌↔◌, length, IsTrue, None, OnOk};
+ghost use Rattle.insn_forms.specs.Spelling.{spell};
+ghost use Rattle.insn_forms.specs.declared.forms.Form.TheVariants.{Jmp8};
 ghost use Rattle.module_image.specs.Entries.{entries, length_at};
 ghost use Rattle.module_image.specs.Keys.{keys};
 ghost use Rattle.module_image.specs.Names.{tracer};
@@ -177,10 +179,16 @@ fn is_out_of_reach(site: &Site) -> bool
     ensures { IsTrue result ↔ IsOutOfReach site.now }
 {
     match site.kind {
-        SiteKind::Jump { target, .. } => site.len == 2
-            && Form::Jmp8(target).encode(site.at).is_err(),
+        SiteKind::Jump { target, .. } => site.len == 2 && is_too_far(site.at, target),
         SiteKind::Call { .. } | SiteKind::Tail { .. } | SiteKind::Trace => false,
     }
+}
+
+/// Whether a jump of two bytes at an address doesn't reach its target.
+fn is_too_far(at: u64, target: u64) -> bool
+    ensures { IsTrue result ↔ (spell (Jmp8 target) at ≡ None) }
+{
+    Form::Jmp8(target).encode(at).is_err()
 }
 
 /// Whether a site is a trace site.

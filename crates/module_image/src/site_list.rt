@@ -1,6 +1,6 @@
 //! The sites of a module, ascending.
 ghost use Rattle.std.specs.Prelude.{◌≡◌, ◌≤◌, ◌<◌, ◌+◌, ◌^◌, ℕ, Some, IfOk, IfErr, OnOk, length, map, slice_get};
-ghost use Rattle.module_image.specs.declared.refused.Refused.TheVariants.{NoMemory};
+ghost use Rattle.module_parts.specs.declared.refused.Refused.TheVariants.{NoMemory};
 ghost use Rattle.module_image.specs.Refusals.{IsOutsideOf, Passes, Tries, past_site_length, past_site_overlap, room_of};
 ghost use Rattle.module_image.specs.Sites.{ascending, code_at, entry_len, kind_of, site_of, sites};
 

@@ -1,12 +1,11 @@
 //! The sites of a text by their offsets.
 ghost use Rattle.std.specs.Prelude.{◌≡◌, ◌≤◌, ◌<◌, ◌+◌, ◌-◌, if◌then◌else◌, length, slice_set, IfOk, IfErr};
-ghost use Rattle.module_image.specs.declared.refused.Refused.TheVariants.{NoMemory};
-ghost use Rattle.module_image.specs.declared.unit.Unit.TheVariants.{Site as PatchedSite};
+ghost use Rattle.module_parts.specs.declared.refused.Refused.TheVariants.{NoMemory};
+ghost use Rattle.module_parts.specs.declared.unit.Unit.TheVariants.{Site as PatchedSite};
 ghost use Rattle.module_image.specs.Sweeping.{HasSites};
 ghost use Rattle.module_image.specs.Text.{AreInside, AreApart, layout_in};
 
-use crate::refused::Refused;
-use crate::{Code, Site, Unit};
+use crate::{Code, Refused, Site, Unit};
 use std::alloc::Global;
 
 /// By offset, the sites of a text that aren't foreign, each where it begins, and nothing elsewhere.

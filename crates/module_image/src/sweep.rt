@@ -7,9 +7,8 @@ ghost use Rattle.module_image.specs.Text.{AreApart, AreInside, layout_in};
 ghost use Rattle.x64_subset.specs.Reading.{read};
 
 use crate::lookup::site_of;
-use crate::refused::Refused;
 use crate::site_units::site_units;
-use crate::{Code, Unit};
+use crate::{Code, Refused, Unit};
 use std::alloc::Global;
 use x64_subset::decode;
 

@@ -5,7 +5,7 @@ ghost use Rattle.insn_forms.specs.Spelling.{size};
 ghost use Rattle.module_image.specs.Early.{HasCallLen, HaveCallLens};
 ghost use Rattle.module_image.specs.Sites.{early_form, form_code, put_at, site_written, starts_of, written};
 ghost use Rattle.module_image.specs.Text.{AreInside, IsInside};
-ghost use Rattle.module_image.specs.declared.refused.Refused.TheVariants.{NoMemory};
+ghost use Rattle.module_parts.specs.declared.refused.Refused.TheVariants.{NoMemory};
 
 use crate::early::{key_state, wanted_form};
 use crate::{Key, Refused, Site, Text};

@@ -12,9 +12,9 @@ use Rattle.key_state.specs.After.{after as keys_after}
 use Rattle.key_state.specs.declared.count.CountRefused.{CountRefused}
 use Rattle.key_state.specs.Changes.{change_at, change_of, changes}
 use Rattle.key_state.specs.Outcome.{Ending}
-use Rattle.module_image.specs.declared.site.Site.{Site}
-use Rattle.module_image.specs.declared.unit.Unit.{Unit as TextUnit}
-use Rattle.module_image.specs.declared.unit.Unit.TheVariants.{Nothing}
+use Rattle.module_parts.specs.declared.site.Site.{Site}
+use Rattle.module_parts.specs.declared.unit.Unit.{Unit as TextUnit}
+use Rattle.module_parts.specs.declared.unit.Unit.TheVariants.{Nothing}
 use Rattle.module_image.specs.Layout.{IsSwept, Layout, layout, unit_len}
 use Rattle.module_image.specs.Module.{IsModule, Module, States, wants}
 use Rattle.module_image.specs.Names.{Named, tracer_name, value_of}

@@ -9,8 +9,8 @@ use Rattle.elf_module.specs.declared.refused.ElfRefused.{ElfRefused}
 use Rattle.elf_module.specs.declared.refused.ElfRefused.TheVariants.{Short}
 use Rattle.elf_module.specs.Refusals.{order}
 use Rattle.site_tables.specs.declared.entries.TableKind.TheVariants.{Jump, Call, Trace}
-use Rattle.module_image.specs.declared.refused.Refused.{Refused}
-use Rattle.module_image.specs.declared.refused.Refused.TheVariants.{Table, NoMemory}
+use Rattle.module_parts.specs.declared.refused.Refused.{Refused}
+use Rattle.module_parts.specs.declared.refused.Refused.TheVariants.{Table, NoMemory}
 use Rattle.module_image.specs.Refusals.{IsRefusal as IsImageRefusal, Passes as ImagePasses}
 use Rattle.module_image.specs.Module.{Module}
 use Rattle.poke_faults.specs.declared.fault.Refusal.{Refusal}

@@ -8,7 +8,7 @@ use Rattle.key_state.specs.declared.outcome.Outcome.{Outcome}
 use Rattle.key_state.specs.Outcome.{Ending, HoldsWanted, ending_of, outcome, outcomes, settled, states_after}
 use Rattle.key_state.specs.Settled.{IsSettledOf, SettledState}
 use Rattle.key_state.proofs.Going.{outcomes_on}
-use Rattle.module_image.specs.declared.command.Command.{Command}
+use Rattle.module_parts.specs.declared.command.Command.{Command}
 use Rattle.module_image.specs.Held.{first_states}
 use Rattle.module_image.specs.Module.{Module, States}
 use Rattle.script_text.specs.declared.script.ScriptStep.{ScriptStep}

@@ -3,7 +3,7 @@ use Rattle.std.specs.Prelude.{◌≤◌, ◌<◌, ⊤, ℕ, List, [], ◌∷◌,
 use Rattle.poke_base.specs.Number.{decimal, hexadecimal}
 use Rattle.elf_module.specs.Elf.{Elf, sections_of, symbols_of}
 use Rattle.elf_module.specs.Refusals.{IsRefusal, Passes}
-use Rattle.module_image.specs.declared.site.Site.{Site}
+use Rattle.module_parts.specs.declared.site.Site.{Site}
 use Rattle.module_image.specs.SiteLine.{site_lines}
 use Rattle.module_image.specs.Module.{Module, IsModule}
 use Rattle.module_image.specs.Refusals.{IsRefusal as IsImageRefusal}

@@ -13,7 +13,7 @@ use Rattle.site_tables.specs.Found.{IsBadTable, IsFirstBadTable, table_len}
 pub use Rattle.site_tables.specs.Tables.{table_in}
 use Rattle.poke_faults.specs.declared.module_fault.ModuleRefused.{ModuleRefused}
 use Rattle.poke_faults.specs.declared.module_fault.ModuleRefused.TheVariants.{TooLong, Elf, Image}
-use Rattle.module_image.specs.declared.refused.Refused.TheVariants.{Table}
+use Rattle.module_parts.specs.declared.refused.Refused.TheVariants.{Table}
 
 -- how many bytes a module file may have
 abbrev pub module_limit : ℕ

@@ -15,8 +15,8 @@ use Rattle.poke_faults.specs.declared.journal_fault.JournalRefused.{JournalRefus
 use Rattle.poke_faults.specs.declared.journal_fault.JournalRefused.TheVariants.{TooLong as LongJournal, Line as JournalLine}
 use Rattle.poke_faults.specs.declared.module_fault.ModuleRefused.{ModuleRefused}
 use Rattle.poke_faults.specs.declared.module_fault.ModuleRefused.TheVariants.{TooLong as LongModule, Elf, Image}
-use Rattle.module_image.specs.declared.refused.Refused.{Refused}
-use Rattle.module_image.specs.declared.refused.Refused.TheVariants.{TextCount, TextSize, Table, SiteCount, SiteOutside, SiteLength, SiteOverlap, KeyOutside, KeyState, NoReach as OutOfReach, TracerMissing, Undecoded, BadTarget, EndFalls, NoMemory}
+use Rattle.module_parts.specs.declared.refused.Refused.{Refused}
+use Rattle.module_parts.specs.declared.refused.Refused.TheVariants.{TextCount, TextSize, Table, SiteCount, SiteOutside, SiteLength, SiteOverlap, KeyOutside, KeyState, NoReach as OutOfReach, TracerMissing, Undecoded, BadTarget, EndFalls, NoMemory}
 use Rattle.poke_faults.specs.declared.fault.Fault.{Fault}
 use Rattle.poke_faults.specs.declared.fault.Fault.TheVariants.{Words, Refused as RefusedFault, Read, Write, Memory}
 use Rattle.poke_faults.specs.declared.fault.Refusal.{Refusal}

@@ -2,8 +2,8 @@
 use Rattle.std.proofs.Common.{◌≡◌, ◌∙◌, ◌+◌, ◌<◌, ℕ, List, length, take, false, Option, Some, Ok, Err, ap, slice_index_or}
 use Rattle.std.specs.List.{flat_map, slice_get}
 use Rattle.std.proofs.lemmas.Option.{slice_get-get_or}
-use Rattle.module_image.specs.declared.site.Site.{Site}
-use Rattle.module_image.specs.declared.site.SiteKind.TheVariants.{Trace}
+use Rattle.module_parts.specs.declared.site.Site.{Site}
+use Rattle.module_parts.specs.declared.site.SiteKind.TheVariants.{Trace}
 use Rattle.module_image.specs.Module.{Module}
 use Rattle.module_image.specs.SiteLine.{line_of, site_lines}
 use Rattle.poke_base.specs.declared.host.WriteFail.{WriteFail}

@@ -6,7 +6,7 @@ use Rattle.cpu_core.specs.Turn.{CpuState, at_turn, handled_turn, plain_answer, p
 use Rattle.int3_handler.specs.declared.handler.Handled.{Handled}
 use Rattle.key_state.specs.Outcome.{Returns}
 use Rattle.key_state.specs.OutcomeLine.{outcome_line}
-use Rattle.module_image.specs.declared.command.Command.{Command}
+use Rattle.module_parts.specs.declared.command.Command.{Command}
 use Rattle.module_image.specs.Module.{Module, States}
 use Rattle.poke_batch.specs.declared.batch.Due.TheVariants as due
 use Rattle.poke_batch.specs.Walk.{BatchState, Walk, due_of, moved, taken}

@@ -4,7 +4,7 @@ use Rattle.insn_forms.specs.declared.forms.Change.{Change}
 use Rattle.key_state.specs.declared.count.CountRefused.{CountRefused}
 use Rattle.key_state.specs.After.{after}
 use Rattle.key_state.specs.Changes.{changes_by, changes_to}
-use Rattle.module_image.specs.declared.command.Command.{Command}
+use Rattle.module_parts.specs.declared.command.Command.{Command}
 use Rattle.module_image.specs.Module.{Module, States}
 use Rattle.stale_fetch.specs.Windows.{WindowState}
 use Rattle.script_runner.specs.Updating.{CanBegin}

@@ -5,7 +5,7 @@ use Rattle.cpu_core.specs.Turn.{CpuState}
 use Rattle.insn_forms.specs.declared.forms.Change.{Change}
 use Rattle.key_state.specs.Outcome.{Returns}
 use Rattle.key_state.specs.OutcomeLine.{outcome_line}
-use Rattle.module_image.specs.declared.command.Command.{Command}
+use Rattle.module_parts.specs.declared.command.Command.{Command}
 use Rattle.module_image.specs.Module.{Module, States}
 use Rattle.poke_batch.specs.declared.batch.Due.{Due}
 use Rattle.poke_batch.specs.declared.batch.Due.TheVariants as due

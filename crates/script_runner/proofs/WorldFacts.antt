@@ -9,7 +9,7 @@ use Rattle.insn_forms.specs.History.{since}
 use Rattle.insn_forms.specs.Write.{Write as OneWrite}
 use Rattle.key_state.specs.After.{after}
 use Rattle.key_state.specs.Changes.{AreStatesOf, changes}
-use Rattle.module_image.specs.declared.command.Command.{Command}
+use Rattle.module_parts.specs.declared.command.Command.{Command}
 use Rattle.module_image.specs.Command.{IsCommandOf}
 use Rattle.module_image.specs.Module.{States}
 use Rattle.module_image.proofs.Lent.{sites_laid_out}

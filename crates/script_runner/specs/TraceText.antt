@@ -3,7 +3,7 @@ use Rattle.std.specs.Prelude.{ℕ, List, [], ◌∷◌, ◌++◌, codes, slice_g
 use Rattle.std.specs.List.{flat_map}
 use Rattle.cpu_core.specs.Lines.{out_line, pass_line, stop_line}
 use Rattle.key_state.specs.OutcomeLine.{outcome_line}
-use Rattle.module_image.specs.declared.site.Site.{Site}
+use Rattle.module_parts.specs.declared.site.Site.{Site}
 use Rattle.module_image.specs.Module.{Module}
 use Rattle.module_image.specs.SiteLine.{line_of}
 use Rattle.poke_base.specs.Number.{decimal}

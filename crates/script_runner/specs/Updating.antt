@@ -3,7 +3,7 @@ use Rattle.std.specs.Prelude.{◌≡◌, ◌≤◌, ℕ, Bool, true, false, List
 use Rattle.key_state.specs.After.{after}
 use Rattle.key_state.specs.Changes.{changes}
 use Rattle.key_state.specs.Outcome.{ending_of}
-use Rattle.module_image.specs.declared.command.Command.{Command}
+use Rattle.module_parts.specs.declared.command.Command.{Command}
 use Rattle.module_image.specs.Module.{Module, States}
 use Rattle.poke_batch.specs.Clash.{CanPoke}
 use Rattle.poke_batch.specs.Walk.{Walk, opened}

@@ -1,7 +1,7 @@
 -- Scripts line by line, for a module with one function, one static key, one static call's key and one trace site.
 use Rattle.std.specs.Prelude.{◌≡◌, ℕ, true, false, List, [], ◌∷◌, ◌++◌, None, Some, Result, Ok, Err, codes, replicate, refl}
-use Rattle.module_image.specs.declared.command.Command.TheVariants as command
-use Rattle.module_image.specs.declared.site.SiteKind.TheVariants.{Trace as TraceSite}
+use Rattle.module_parts.specs.declared.command.Command.TheVariants as command
+use Rattle.module_parts.specs.declared.site.SiteKind.TheVariants.{Trace as TraceSite}
 use Rattle.module_image.specs.Module.{Module}
 use Rattle.script_text.specs.declared.refused.ScriptWhy.{ScriptWhy}
 use Rattle.script_text.specs.declared.refused.ScriptWhy.TheVariants.{Word, NoCpu, LateCpu, Cpus, Number, Name, Updates, Drops, Turns}

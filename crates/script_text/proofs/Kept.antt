@@ -2,7 +2,7 @@
 use Rattle.std.proofs.Common.{◌≡◌, ◌≤◌, ◌+◌, ℕ, Bool, true, false, [], ◌∷◌, length, Option, Some, None, not, nat_le, nat_lt, refl, arith, length-append}
 use Rattle.std.specs.Prelude.{if◌then◌else◌}
 use Rattle.std.proofs.lemmas.Bool.{leb-false, ltb-false}
-use Rattle.module_image.specs.declared.command.Command.{Command}
+use Rattle.module_parts.specs.declared.command.Command.{Command}
 use Rattle.module_image.specs.Module.{Module}
 use Rattle.script_text.specs.declared.refused.ScriptWhy.TheVariants.{LateCpu, Cpus, Updates, Drops, Turns}
 use Rattle.script_text.specs.Draft.{IsWithin, limit_fault, place_fault}

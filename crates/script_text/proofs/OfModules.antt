@@ -8,9 +8,9 @@ use Rattle.std.proofs.lemmas.Option.{none-some, same_Some}
 use Rattle.std.proofs.lemmas.List.Elements.{All-nil, All-push}
 use Rattle.poke_base.specs.Number.{dec_number}
 use Rattle.poke_base.specs.Text.{words}
-use Rattle.module_image.specs.declared.command.Command.{Command}
-use Rattle.module_image.specs.declared.command.Command.TheVariants as command
-use Rattle.module_image.specs.declared.key.KeyClass.TheVariants.{Jump as JumpKey, Call as CallKey}
+use Rattle.module_parts.specs.declared.command.Command.{Command}
+use Rattle.module_parts.specs.declared.command.Command.TheVariants as command
+use Rattle.module_parts.specs.declared.key.KeyClass.TheVariants.{Jump as JumpKey, Call as CallKey}
 use Rattle.module_image.specs.Command.{IsCommandOf, IsFunction}
 use Rattle.module_image.specs.Lent.{IsKeyOf, IsTraceSite, KeyNamesAreKnown, NamesAreKnown, TraceSitesAreFound}
 use Rattle.module_image.specs.Module.{Module}

@@ -2,10 +2,10 @@
 use Rattle.std.specs.Prelude.{◌&&◌, ℕ, Bool, nat_le, if◌then◌else◌, List, codes, Option, Some, None, option_map}
 use Rattle.std.specs.Str.{bytes_eq}
 use Rattle.poke_base.specs.Number.{dec_number}
-use Rattle.module_image.specs.declared.command.Command.{Command}
-use Rattle.module_image.specs.declared.command.Command.TheVariants as command
-use Rattle.module_image.specs.declared.key.KeyClass.{KeyClass}
-use Rattle.module_image.specs.declared.key.KeyClass.TheVariants.{Jump as JumpKey, Call as CallKey}
+use Rattle.module_parts.specs.declared.command.Command.{Command}
+use Rattle.module_parts.specs.declared.command.Command.TheVariants as command
+use Rattle.module_parts.specs.declared.key.KeyClass.{KeyClass}
+use Rattle.module_parts.specs.declared.key.KeyClass.TheVariants.{Jump as JumpKey, Call as CallKey}
 use Rattle.module_image.specs.Module.{Module, names_of, trace_site_of}
 use Rattle.module_image.specs.Names.{value_of}
 use Rattle.script_text.specs.declared.script.ScriptStep.{ScriptStep}

@@ -1,6 +1,6 @@
 //! What the lines of a script mean in a module.
 ghost use Rattle.std.specs.Prelude.{◌≡◌, ◌≤◌, IfSome};
-ghost use Rattle.module_image.specs.declared.key.KeyClass.TheVariants.{Jump as JumpKey, Call as CallKey};
+ghost use Rattle.module_parts.specs.declared.key.KeyClass.TheVariants.{Jump as JumpKey, Call as CallKey};
 ghost use Rattle.script_text.specs.declared.script.ScriptStep.TheVariants.{Update};
 ghost use Rattle.script_text.specs.Meaning.{Does, function_or_null, key_named, most_turns, place_of, target, traces, turns_of};
 ghost use Rattle.script_text.specs.Shape.{meaning_in};

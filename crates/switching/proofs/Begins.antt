@@ -17,7 +17,7 @@ use Rattle.key_state.specs.Changes.{AreStatesOf, changes, first_foreign}
 use Rattle.key_state.specs.Outcome.{Clashes, Ending}
 use Rattle.key_state.proofs.Keeping.{commands_keep}
 use Rattle.key_state.proofs.Poking.{can_poke}
-use Rattle.module_image.specs.declared.command.Command.{Command}
+use Rattle.module_parts.specs.declared.command.Command.{Command}
 use Rattle.module_image.specs.Command.{IsCommandOf}
 use Rattle.module_image.specs.Layout.{site_at}
 use Rattle.module_image.specs.Module.{IsAccepted, Module, States}

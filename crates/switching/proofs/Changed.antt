@@ -10,7 +10,7 @@ use Rattle.insn_forms.specs.declared.forms.Form.TheVariants.{Nop2, Nop5, Jmp8, J
 use Rattle.insn_forms.specs.Same.{same_form}
 use Rattle.insn_forms.specs.Spelling.{size, spell}
 use Rattle.poke_batch.specs.Underway.{IsSpellable}
-use Rattle.module_image.specs.declared.site.Site.{Site}
+use Rattle.module_parts.specs.declared.site.Site.{Site}
 use Rattle.module_image.specs.Layout.{site_at}
 use Rattle.module_image.specs.Module.{IsAccepted, Module, States, wants}
 use Rattle.key_state.specs.Changes.{AreStatesOf, change_at, change_between, change_of, changes, first_foreign, is_foreign}

@@ -10,7 +10,7 @@ use Rattle.std.proofs.lemmas.Bool.Decides.{Decides-eqb}
 use Rattle.std.proofs.lemmas.List.{length-replicate, length-set}
 use Rattle.std.proofs.lemmas.Option.{slice_get_within}
 use Rattle.insn_forms.specs.declared.forms.Change.{Change}
-use Rattle.module_image.specs.declared.command.Command.{Command}
+use Rattle.module_parts.specs.declared.command.Command.{Command}
 use Rattle.module_image.specs.Module.{Module}
 use Rattle.poke_batch.specs.declared.batch.Due.TheVariants as due
 use Rattle.poke_batch.specs.Poke.{Item, cut, poke}

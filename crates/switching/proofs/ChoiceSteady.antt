@@ -20,8 +20,8 @@ use Rattle.key_state.specs.declared.count.CountRefused.{CountRefused}
 use Rattle.key_state.specs.After.{after}
 use Rattle.key_state.specs.Changes.{change_at, change_between, change_of, changes}
 use Rattle.key_state.specs.Outcome.{Ending}
-use Rattle.module_image.specs.declared.command.Command.{Command}
-use Rattle.module_image.specs.declared.site.Site.{Site}
+use Rattle.module_parts.specs.declared.command.Command.{Command}
+use Rattle.module_parts.specs.declared.site.Site.{Site}
 use Rattle.module_image.specs.Layout.{site_at}
 use Rattle.module_image.specs.Module.{Module, States, wants}
 use Rattle.poke_batch.specs.Walk.{Walk}

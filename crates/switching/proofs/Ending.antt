@@ -14,7 +14,7 @@ use Rattle.key_state.specs.declared.count.CountRefused.{CountRefused}
 use Rattle.key_state.specs.After as key
 use Rattle.key_state.specs.Changes.{changes, first_foreign}
 use Rattle.key_state.specs.Outcome.{Clashes, Ending, Returns, ending_at, ending_to, kept_at, outcomes, settled_to}
-use Rattle.module_image.specs.declared.command.Command.{Command}
+use Rattle.module_parts.specs.declared.command.Command.{Command}
 use Rattle.module_image.specs.Held.{first_states}
 use Rattle.module_image.specs.Module.{Module, States, plain_at}
 use Rattle.module_image.specs.Sites.{code_at}

@@ -3,10 +3,10 @@ use Rattle.std.proofs.Common.{◌≡◌, ◌≢◌, ◌≤◌, ℕ, zero, suc, f
 use Rattle.std.specs.Prelude.{codes}
 use Rattle.insn_forms.specs.History.{byte}
 use Rattle.insn_forms.specs.Spelling.{spell}
-use Rattle.module_image.specs.declared.command.Command.TheVariants.{Target}
-use Rattle.module_image.specs.declared.key.KeyClass.TheVariants.{Call as CallKey}
-use Rattle.module_image.specs.declared.site.SiteKind.TheVariants.{Call}
-use Rattle.module_image.specs.declared.unit.Unit.TheVariants.{Nothing, Plain as Insn, Site}
+use Rattle.module_parts.specs.declared.command.Command.TheVariants.{Target}
+use Rattle.module_parts.specs.declared.key.KeyClass.TheVariants.{Call as CallKey}
+use Rattle.module_parts.specs.declared.site.SiteKind.TheVariants.{Call}
+use Rattle.module_parts.specs.declared.unit.Unit.TheVariants.{Nothing, Plain as Insn, Site}
 use Rattle.module_image.specs.Module.{Module}
 use Rattle.run_journal.specs.declared.event.Event.{Event}
 use Rattle.run_journal.specs.declared.event.Event.TheVariants.{Begin, Request, Take, Write}

@@ -5,8 +5,8 @@ use Rattle.std.proofs.lemmas.Option.{same_Some}
 use Rattle.insn_forms.specs.History.{IsCandidate, Memory, byte}
 use Rattle.insn_forms.specs.Write.{Write}
 use Rattle.cpu_core.specs.Fetch.{AreCandidates}
-use Rattle.module_image.specs.declared.unit.Unit.{Unit}
-use Rattle.module_image.specs.declared.unit.Unit.TheVariants.{Nothing}
+use Rattle.module_parts.specs.declared.unit.Unit.{Unit}
+use Rattle.module_parts.specs.declared.unit.Unit.TheVariants.{Nothing}
 use Rattle.module_image.specs.Layout.{Layout, text_end, unit_at, unit_len}
 use Rattle.module_image.specs.Module.{Module, layout_of}
 use Rattle.run_journal.specs.declared.event.Event.{Event}

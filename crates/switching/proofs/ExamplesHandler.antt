@@ -4,10 +4,10 @@ use Rattle.std.proofs.Common.{◌≡◌, ◌≢◌, ◌≤◌, ℕ, zero, suc, f
 use Rattle.std.specs.Prelude.{codes}
 use Rattle.insn_forms.specs.History.{byte}
 use Rattle.insn_forms.specs.Spelling.{spell}
-use Rattle.module_image.specs.declared.command.Command.TheVariants.{Inc as IncKey}
-use Rattle.module_image.specs.declared.key.KeyClass.TheVariants.{Jump as JumpKey}
-use Rattle.module_image.specs.declared.site.SiteKind.TheVariants.{Jump}
-use Rattle.module_image.specs.declared.unit.Unit.TheVariants.{Nothing, Plain as Insn, Site}
+use Rattle.module_parts.specs.declared.command.Command.TheVariants.{Inc as IncKey}
+use Rattle.module_parts.specs.declared.key.KeyClass.TheVariants.{Jump as JumpKey}
+use Rattle.module_parts.specs.declared.site.SiteKind.TheVariants.{Jump}
+use Rattle.module_parts.specs.declared.unit.Unit.TheVariants.{Nothing, Plain as Insn, Site}
 use Rattle.module_image.specs.Module.{Module}
 use Rattle.run_journal.specs.declared.event.Event.{Event}
 use Rattle.run_journal.specs.declared.event.Event.TheVariants.{Begin, Handle, Plain, Write}

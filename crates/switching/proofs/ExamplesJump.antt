@@ -1,10 +1,10 @@
 -- A worked example: a jump is switched on while a processor fetches a byte that is stale, and so does the old instruction whole.
 -- After it has serialised it can't do so any more.
 use Rattle.std.proofs.Common.{◌≡◌, ◌≢◌, ◌≤◌, ℕ, zero, suc, false, List, [], ◌∷◌, Ok, inl, refl, arith}
-use Rattle.module_image.specs.declared.command.Command.TheVariants.{Inc}
-use Rattle.module_image.specs.declared.key.KeyClass.TheVariants.{Jump as JumpKey}
-use Rattle.module_image.specs.declared.site.SiteKind.TheVariants.{Jump}
-use Rattle.module_image.specs.declared.unit.Unit.TheVariants.{Nothing, Plain as Insn, Site}
+use Rattle.module_parts.specs.declared.command.Command.TheVariants.{Inc}
+use Rattle.module_parts.specs.declared.key.KeyClass.TheVariants.{Jump as JumpKey}
+use Rattle.module_parts.specs.declared.site.SiteKind.TheVariants.{Jump}
+use Rattle.module_parts.specs.declared.unit.Unit.TheVariants.{Nothing, Plain as Insn, Site}
 use Rattle.module_image.specs.Held.{first_states}
 use Rattle.module_image.specs.Module.{Module}
 use Rattle.run_journal.specs.declared.event.Event.{Event}

@@ -3,10 +3,10 @@ use Rattle.std.proofs.Common.{◌≡◌, false, List, [], ◌∷◌, Ok, inl, re
 use Rattle.std.specs.Prelude.{codes}
 use Rattle.insn_forms.specs.Spelling.{spell}
 use Rattle.key_state.specs.Outcome.{Returns}
-use Rattle.module_image.specs.declared.command.Command.TheVariants.{Target}
-use Rattle.module_image.specs.declared.key.KeyClass.TheVariants.{Call as CallKey}
-use Rattle.module_image.specs.declared.site.SiteKind.TheVariants.{Tail}
-use Rattle.module_image.specs.declared.unit.Unit.TheVariants.{Nothing, Plain as Insn, Site}
+use Rattle.module_parts.specs.declared.command.Command.TheVariants.{Target}
+use Rattle.module_parts.specs.declared.key.KeyClass.TheVariants.{Call as CallKey}
+use Rattle.module_parts.specs.declared.site.SiteKind.TheVariants.{Tail}
+use Rattle.module_parts.specs.declared.unit.Unit.TheVariants.{Nothing, Plain as Insn, Site}
 use Rattle.module_image.specs.Module.{Module}
 use Rattle.module_image.specs.Sites.{code_at}
 use Rattle.run_journal.specs.declared.event.Event.{Event}

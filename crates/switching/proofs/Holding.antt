@@ -18,7 +18,7 @@ use Rattle.key_state.specs.Outcome.{Clashes, HoldsWanted}
 use Rattle.key_state.proofs.Clashing.{clashes_foreign, foreign_bytes}
 use Rattle.key_state.proofs.Pieces.{byte_there, held_piece}
 use Rattle.key_state.proofs.Poking.{spelt_there}
-use Rattle.module_image.specs.declared.site.Site.{Site}
+use Rattle.module_parts.specs.declared.site.Site.{Site}
 use Rattle.module_image.specs.Held as held
 use Rattle.module_image.specs.Layout.{site_at}
 use Rattle.module_image.specs.Module.{IsAccepted, Module, States, wants}

@@ -12,7 +12,7 @@ use Rattle.poke_batch.specs.Poke.Item.{Puts, Syncs}
 use Rattle.poke_batch.specs.Underway.{AreApart}
 use Rattle.poke_batch.specs.Walk.{Walk}
 use Rattle.key_state.specs.Changes.{AreStatesOf, changes, first_foreign}
-use Rattle.module_image.specs.declared.site.Site.{Site}
+use Rattle.module_parts.specs.declared.site.Site.{Site}
 use Rattle.module_image.specs.Flows.{Flows}
 use Rattle.module_image.specs.Held as held
 use Rattle.module_image.specs.Layout.{site_at}

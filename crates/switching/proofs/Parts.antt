@@ -9,7 +9,7 @@ use Rattle.insn_forms.specs.Spelling.{size}
 use Rattle.insn_forms.proofs.Spellings.{size_pos}
 use Rattle.poke_batch.specs.Underway.{AreApart, IsSpellable}
 use Rattle.key_state.specs.Changes.{AreStatesOf, first_foreign}
-use Rattle.module_image.specs.declared.site.Site.{Site}
+use Rattle.module_parts.specs.declared.site.Site.{Site}
 use Rattle.module_image.specs.Held as held
 use Rattle.module_image.specs.Module.{IsAccepted, Module, States}
 use Rattle.module_image.proofs.Lent.{sites_laid_out}

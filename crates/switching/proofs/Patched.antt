@@ -10,7 +10,7 @@ use Rattle.insn_forms.proofs.Spellings.{length-spell}
 use Rattle.x64_subset.specs.declared.proc.Life.TheVariants.{Running}
 use Rattle.x64_subset.specs.declared.proc.Proc.{Proc}
 use Rattle.x64_subset.specs.Whole.{whole}
-use Rattle.module_image.specs.declared.site.Site.{Site}
+use Rattle.module_parts.specs.declared.site.Site.{Site}
 use Rattle.module_image.specs.Flows.{Flows, HasInsn, HasSite}
 use Rattle.module_image.specs.Layout.{site_at}
 use Rattle.module_image.specs.Lent.{IsLaidOut}

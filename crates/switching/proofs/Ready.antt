@@ -9,7 +9,7 @@ use Rattle.key_state.specs.After.{after}
 use Rattle.key_state.specs.Changes.{AreStatesOf, changes}
 use Rattle.key_state.proofs.Keeping.{commands_keep}
 use Rattle.key_state.proofs.Poking.{can_poke}
-use Rattle.module_image.specs.declared.command.Command.{Command}
+use Rattle.module_parts.specs.declared.command.Command.{Command}
 use Rattle.module_image.specs.Module.{IsAccepted, Module, States}
 use Rattle.module_image.proofs.Lent.{sites_laid_out}
 use Rattle.poke_batch.specs.declared.batch.Due.TheVariants as due

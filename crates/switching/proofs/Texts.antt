@@ -8,7 +8,7 @@ use Rattle.insn_forms.specs.Spelling.{size}
 use Rattle.insn_forms.specs.Write.{Write}
 use Rattle.poke_batch.specs.Poke.{spelled}
 use Rattle.key_state.specs.Changes.{AreStatesOf}
-use Rattle.module_image.specs.declared.site.Site.{Site}
+use Rattle.module_parts.specs.declared.site.Site.{Site}
 use Rattle.module_image.specs.Layout.{site_at}
 use Rattle.module_image.specs.Module.{IsAccepted, Module, States}
 use Rattle.switching.specs.State.{start}

@@ -6,7 +6,7 @@ use Rattle.key_state.specs.declared.count.CountRefused.{CountRefused}
 use Rattle.key_state.specs.After.{after, refused_count}
 use Rattle.key_state.specs.Changes.{changes, first_foreign}
 use Rattle.key_state.specs.Outcome.{Ending, CountRefuses, Clashes}
-use Rattle.module_image.specs.declared.command.Command.{Command}
+use Rattle.module_parts.specs.declared.command.Command.{Command}
 use Rattle.module_image.specs.Module.{Module, States}
 use Rattle.module_image.specs.Sites.{code_at}
 use Rattle.poke_batch.specs.Clash.{first_clash, held_bytes}

@@ -10,7 +10,7 @@ use Rattle.int3_handler.specs.declared.handler.Handled.TheVariants.{NotOurs}
 use Rattle.int3_handler.specs.Handler.{answer}
 use Rattle.key_state.specs.Changes.{changes_by, first_foreign}
 use Rattle.key_state.specs.Outcome.{Ending, HoldsWanted, outcomes}
-use Rattle.module_image.specs.declared.command.Command.{Command}
+use Rattle.module_parts.specs.declared.command.Command.{Command}
 use Rattle.module_image.specs.Held.{first_states}
 use Rattle.module_image.specs.Lent.{IsPatchedSite}
 use Rattle.module_image.specs.Module.{Module, IsAccepted}

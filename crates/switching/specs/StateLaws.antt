@@ -3,7 +3,7 @@ use Rattle.std.specs.Prelude.{◌≡◌, ◌<◌, ◌≤◌, ℕ, List, [], ◌�
 use Rattle.std.specs.List.{All}
 use Rattle.key_state.specs.After.{after}
 use Rattle.key_state.specs.Changes.{AreStatesOf, changes}
-use Rattle.module_image.specs.declared.command.Command.{Command}
+use Rattle.module_parts.specs.declared.command.Command.{Command}
 use Rattle.module_image.specs.Module.{Module, States}
 use Rattle.poke_batch.specs.declared.batch.Due.TheVariants as due
 use Rattle.poke_batch.specs.Clash.{CanPoke}

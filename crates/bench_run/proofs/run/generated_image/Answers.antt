@@ -4,7 +4,7 @@ use Rattle.elf_build.specs.File.{file_of}
 use Rattle.elf_module.specs.Elf.{Elf}
 use Rattle.elf_module.specs.Refusals.{IsRefusal, Reads}
 use Rattle.generated_module.proofs.Refuting.{bench-of, never-refused, read-elf, refused-for-memory}
-use Rattle.module_image.specs.declared.refused.Refused.TheVariants.{NoMemory}
+use Rattle.module_parts.specs.declared.refused.Refused.TheVariants.{NoMemory}
 use Rattle.module_image.specs.Module.{IsModule}
 use Rattle.written_module.proofs.ReadBack.{reads-back}
 use Rattle.bench_run.proofs.run.generated_image.Goals as goal

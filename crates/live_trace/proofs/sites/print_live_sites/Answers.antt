@@ -1,8 +1,8 @@
 use Rattle.std.proofs.Common.{List, Some, false, slice_index_or, subst, ◌≡◌, ◌∙◌, ℕ}
 use Rattle.std.specs.List.{slice_get}
 use Rattle.std.proofs.lemmas.Option.{slice_get-get_or}
-use Rattle.module_image.specs.declared.site.Site.{Site}
-use Rattle.module_image.specs.declared.site.SiteKind.TheVariants.{Jump}
+use Rattle.module_parts.specs.declared.site.Site.{Site}
+use Rattle.module_parts.specs.declared.site.SiteKind.TheVariants.{Jump}
 use Rattle.poke_base.proofs.ItemLines.{as_failed}
 use Rattle.live_trace.proofs.SiteTexts.{line_here, site_failed, site_printed}
 use Rattle.live_trace.proofs.sites.print_live_sites.Goals as goal

@@ -1,4 +1,4 @@
-use Rattle.module_image.specs.declared.key.Key.{Key}
+use Rattle.module_parts.specs.declared.key.Key.{Key}
 use Rattle.module_image.specs.Leads.{key_target}
 use Rattle.module_image.specs.Text.{layout_in}
 use Rattle.module_image.proofs.Leading.{unless_astray, lead_more, key_first, keys_reach}

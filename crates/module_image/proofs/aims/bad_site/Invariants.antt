@@ -1,4 +1,4 @@
-use Rattle.module_image.specs.declared.site.Site.{Site}
+use Rattle.module_parts.specs.declared.site.Site.{Site}
 use Rattle.module_image.specs.Leads.{jump_target}
 use Rattle.module_image.specs.Text.{layout_in}
 use Rattle.module_image.proofs.Leading.{LeadBelow}

@@ -1,6 +1,6 @@
 -- One of the bytes is missing, or they say what the key holds.
 use Rattle.std.proofs.Common.{ℕ, ap}
-use Rattle.module_image.specs.declared.key.Key.{Key}
+use Rattle.module_parts.specs.declared.key.Key.{Key}
 use Rattle.module_image.proofs.KeyBytes.{unloaded, loaded_whole, started}
 use Rattle.module_image.proofs.key_starts.read_key.Goals as goal
 

@@ -1,7 +1,7 @@
 use Rattle.std.proofs.Common.{◌≡◌, ◌↔◌, ◌<◌, ℕ, IsTrue, Bool, List, length, get_or, sym, subst, arith}
 use Rattle.std.proofs.lemmas.Option.{slice_get-get_or}
 use Rattle.elf_module.specs.Elf.{Elf}
-use Rattle.module_image.specs.declared.entry.Entry.{Entry}
+use Rattle.module_parts.specs.declared.entry.Entry.{Entry}
 use Rattle.module_image.specs.declared.text.Text.{Text}
 use Rattle.module_image.specs.First.{HasNone}
 use Rattle.module_image.specs.Entries.{entries, length_at}

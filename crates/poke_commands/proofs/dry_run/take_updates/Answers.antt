@@ -4,7 +4,7 @@ use Rattle.script_text.specs.declared.script.ScriptStep.{ScriptStep}
 use Rattle.script_text.specs.declared.script.ScriptStep.TheVariants.{Update}
 use Rattle.script_text.specs.Commands.{commands}
 use Rattle.key_state.specs.declared.outcome.Outcome.{Outcome}
-use Rattle.module_image.specs.declared.command.Command.TheVariants.{Inc}
+use Rattle.module_parts.specs.declared.command.Command.TheVariants.{Inc}
 use Rattle.poke_commands.proofs.ScriptUpdates.{HasTaken, update_taken}
 use Rattle.poke_commands.proofs.dry_run.take_updates.Goals as goal
 

@@ -2,8 +2,8 @@ use Rattle.std.proofs.Common.{◌∙◌, ap, false, Err, List, ℕ, slice_index_
 use Rattle.std.proofs.lemmas.Option.{slice_get-get_or}
 use Rattle.poke_base.specs.declared.host.WriteFail.{WriteFail}
 use Rattle.poke_base.specs.Host.{Prints}
-use Rattle.module_image.specs.declared.site.Site.{Site}
-use Rattle.module_image.specs.declared.site.SiteKind.TheVariants.{Jump}
+use Rattle.module_parts.specs.declared.site.Site.{Site}
+use Rattle.module_parts.specs.declared.site.SiteKind.TheVariants.{Jump}
 use Rattle.module_image.specs.SiteLine.{line_of, site_line, site_lines}
 use Rattle.poke_base.proofs.ItemLines.{as_failed, item_failed, item_printed}
 use Rattle.poke_commands.proofs.site_lines.print_sites.Goals as goal

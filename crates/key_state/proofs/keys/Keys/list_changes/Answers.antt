@@ -4,7 +4,7 @@ use Rattle.insn_forms.specs.declared.forms.Change.{Change}
 use Rattle.insn_forms.specs.Changes.{ChangeList}
 use Rattle.key_state.specs.Effects.{states_after}
 use Rattle.key_state.proofs.Differing.{changes_from, changes_more, few_changes}
-use Rattle.module_image.specs.declared.site.Site.{Site}
+use Rattle.module_parts.specs.declared.site.Site.{Site}
 use Rattle.key_state.proofs.keys.Keys.list_changes.Goals as goal
 
 pub push_some-requires : goal.push_some-requires

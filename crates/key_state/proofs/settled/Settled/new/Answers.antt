@@ -1,5 +1,5 @@
 use Rattle.std.proofs.Common.{◌∙◌, List, ap, length}
-use Rattle.module_image.specs.declared.site.Site.{Site}
+use Rattle.module_parts.specs.declared.site.Site.{Site}
 use Rattle.key_state.proofs.Settling.{settled_first}
 use Rattle.key_state.proofs.settled.Settled.new.Goals as goal
 

@@ -1,6 +1,6 @@
 use Rattle.std.proofs.Common.{◌≡◌, ◌-◌, ◌∙◌, List, None, ap, if◌then◌else◌, nat_lt, slice_get, subst}
 use Rattle.std.specs.Prelude.{IfSome}
-use Rattle.module_image.specs.declared.unit.Unit.{Unit}
+use Rattle.module_parts.specs.declared.unit.Unit.{Unit}
 use Rattle.module_image.specs.Inside.{module_of}
 use Rattle.module_image.specs.Lent.{IsInsnAt}
 use Rattle.module_image.specs.Module.{Module, plain_at, plain_of}

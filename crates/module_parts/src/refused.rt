@@ -1,6 +1,6 @@
 //! Why a module isn't accepted.
 ghost use Rattle.std.specs.Prelude.{◌≡◌};
-ghost use Rattle.module_image.specs.declared.refused.Refused.TheVariants.{NoMemory as no_memory};
+ghost use Rattle.module_parts.specs.declared.refused.Refused.TheVariants.{NoMemory as no_memory};
 
 use site_tables::TableKind;
 use std::alloc::{AllocError, AllocFailed};
