@@ -7,21 +7,14 @@ use poke_base::{CodeBytes, Line};
 use run_journal::Event;
 use script_runner::{Acted, World};
 use script_text::Script;
-use small_module::{BRANCH, CALL, F, LOOP, Small, TAIL};
+use small_module::{BRANCH, CALL, F, LOOP, SPIN, Small, TAIL};
 use std::process::Abort;
 use std::test::Fail;
 
 /// A load where the file says that there is a switch.
 const FOREIGN: Small<'static> = Small {
     text: b"\xb8\x01\0\0\0\xc3",
-    sites: &[PlanSite::Jump {
-        at: F,
-        target: F + 5,
-        key: 0,
-        likely: false,
-    }],
-    keys: &[(b"k", KeyStart::Count(0))],
-    functions: &[(b"f", F)],
+    ..SPIN
 };
 
 /// A traced function, after the one that is called where it is traced.
