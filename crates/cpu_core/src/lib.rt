@@ -4,8 +4,6 @@
 mod cpu;
 mod fetch;
 mod lines;
-#[cfg(test)]
-mod tests;
 mod turn;
 
 pub use cpu::Cpu;

@@ -9,8 +9,6 @@ pub mod plan;
 mod put;
 mod sections;
 mod tables;
-#[cfg(test)]
-mod tests;
 
 pub use file::write;
 pub use generation::generated;

@@ -10,8 +10,6 @@ pub mod records;
 pub mod refused;
 mod sections;
 mod symbols;
-#[cfg(test)]
-mod tests;
 
 pub use file::ElfFile;
 pub use records::{Section, SectionHeader, Symbol, SymbolEntry};

@@ -26,12 +26,12 @@ use Rattle.module_parts.specs.declared.site.Site.{Site}
 use Rattle.module_parts.specs.declared.unit.Aim.{Aim}
 use Rattle.module_image.specs.Aims.{IsFirstBad, IsFirstBadOf, IsPlainAim, jump_aims, key_aims, plain_target}
 use Rattle.module_image.specs.Aims.IsFirstBadOf.{of_plain, of_jumps, of_keys, of_functions}
-use Rattle.module_image.specs.Entries.{base, entries, file_text, length_at, text_section}
+use Rattle.module_names.specs.Entries.{base, entries, file_text, length_at, text_section}
 use Rattle.module_image.specs.First.{HasNone}
-use Rattle.module_image.specs.Keys.{key_addresses, keys}
+use Rattle.module_names.specs.Keys.{key_addresses, keys}
 use Rattle.module_image.specs.Layout.{IsFalling, IsStart, IsUndecoded, Layout, laid, layout, text_end, unit_at, unit_len}
 use Rattle.module_image.specs.Layout.IsStart.{the_first}
-use Rattle.module_image.specs.Names.{Named, functions}
+use Rattle.module_names.specs.Names.{Named, functions}
 use Rattle.module_image.specs.Refusals.{HasBadLength, HasBadSize, HasBadState, Holds, IsBadLength, IsBadText, IsKeyOutside, IsOutOfReach, IsOutside, IsOutsideOf, Passes, function_aims, order, past_all, past_site_overlap}
 use Rattle.module_image.specs.Sites.{ascending, overlap_after, site_of, sites, starts_of, text}
 use Rattle.module_image.specs.Text.{AreInside}
@@ -39,7 +39,7 @@ use Rattle.module_image.proofs.Firsts.{none_first}
 use Rattle.module_image.proofs.SiteLaws.{few_sites, sites_apart_passed}
 use Rattle.module_image.proofs.Sound.{call_lens_passed, inside_passed}
 use Rattle.module_image.proofs.TextLength.{length_text}
-use Rattle.module_image.proofs.WrittenSites.{sites_kept}
+use Rattle.module_laws.proofs.WrittenSites.{sites_kept}
 use Rattle.generated_module.specs.Accepted.{GeneratedAreAccepted, elf_of}
 use Rattle.generated_module.proofs.Each.{each-append, each-at, each-more, none-each}
 use Rattle.generated_module.proofs.Pieces.{Among, Chain, PieceAt, ends, known, piece-at, starts}

@@ -7,7 +7,7 @@ use Rattle.elf_build.specs.Generated.{IsGenerated, main, text_of}
 use Rattle.elf_build.proofs.Generates.{generated-fits}
 use Rattle.written_module.proofs.ReadBack.{reads-back}
 use Rattle.module_image.specs.Module.{IsModule, Module}
-use Rattle.module_image.specs.Names.{value_of}
+use Rattle.module_names.specs.Names.{value_of}
 use Rattle.script_text.specs.declared.refused.ScriptWhy.{ScriptWhy}
 use Rattle.script_text.specs.Script.{ScriptValue, empty_script, go_on, read_from, script, taken}
 use Rattle.generated_module.specs.Accepted.{elf_of}

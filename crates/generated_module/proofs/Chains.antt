@@ -9,7 +9,7 @@ use Rattle.x64_subset.specs.declared.insn.AluOp.TheVariants.{Add}
 use Rattle.x64_subset.specs.declared.insn.Insn.TheVariants.{AluImm, Call as CallTo, Dec, Inc, Jcc32, Jmp8, MovImm, Out, Ret}
 use Rattle.module_parts.specs.declared.site.Site.{Site}
 use Rattle.module_image.specs.Layout.{Layout, laid, text_end}
-use Rattle.module_image.proofs.WrittenSites.{IsOff}
+use Rattle.module_laws.proofs.WrittenSites.{IsOff}
 use Rattle.generated_module.proofs.Each.{each-append, each-at, each-more}
 use Rattle.generated_module.proofs.Pieces.{Piece, Chain}
 use Rattle.generated_module.proofs.Units.{AllOff, IsWritten, patched, plain, plain-piece, site-piece}

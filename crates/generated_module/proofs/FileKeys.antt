@@ -14,7 +14,7 @@ use Rattle.written_module.specs.Written.{ReadsBack}
 use Rattle.module_parts.specs.declared.entry.Entry.{Entry}
 use Rattle.module_parts.specs.declared.key.Key.{Key}
 use Rattle.module_parts.specs.declared.key.KeyClass.TheVariants.{Jump, Call}
-use Rattle.module_image.specs.Keys.{IsUnloaded, gathered, key_addresses, key_of, keys, loaded_after, loaded_number, start_of}
+use Rattle.module_names.specs.Keys.{IsUnloaded, gathered, key_addresses, key_of, keys, loaded_after, loaded_number, start_of}
 use Rattle.module_image.specs.Refusals.{HasBadState, IsKeyOutside}
 use Rattle.generated_module.specs.Accepted.{elf_of}
 use Rattle.generated_module.proofs.KeyLists.{call-keys-are, call_keys, jump-keys-are, jump_keys}

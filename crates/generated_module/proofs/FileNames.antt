@@ -11,8 +11,8 @@ use Rattle.elf_build.specs.File.{data_at, file_of}
 use Rattle.elf_build.specs.Generated.{IsGenerated, block_functions, block_len, block_of, blocks, functions_from as plan_functions_from, functions_of, keys as plan_keys}
 use Rattle.written_module.specs.Written.{ReadsBack, function_symbol, key_symbols_from, no_symbol}
 use Rattle.module_parts.specs.declared.key.KeyClass.TheVariants.{Jump, Call}
-use Rattle.module_image.specs.Keys.{place_in}
-use Rattle.module_image.specs.Names.{Named, functions, functions_from, key_names, keys_from, tracer, tracer_name, value_of}
+use Rattle.module_names.specs.Keys.{place_in}
+use Rattle.module_names.specs.Names.{Named, functions, functions_from, key_names, keys_from, tracer, tracer_name, value_of}
 use Rattle.generated_module.specs.Accepted.{elf_of}
 use Rattle.generated_module.proofs.Each.{each-append}
 use Rattle.generated_module.proofs.Blocks.{Stands, stands-next}

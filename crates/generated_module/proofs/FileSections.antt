@@ -15,7 +15,7 @@ use Rattle.site_tables.specs.Entry.{entry_size}
 use Rattle.site_tables.specs.Found.{table_len}
 use Rattle.site_tables.specs.Tables.{content_of, table_in}
 use Rattle.written_module.specs.Written.{ReadsBack, call_of, jump_of, section_of_part, trace_of}
-use Rattle.module_image.specs.Entries.{base, base_of, bytes_of, call_entry, entries, file_text, index_of, is_text, jump_entry, text_index, text_section, text_sections, trace_entry}
+use Rattle.module_names.specs.Entries.{base, base_of, bytes_of, call_entry, entries, file_text, index_of, is_text, jump_entry, text_index, text_section, text_sections, trace_entry}
 use Rattle.generated_module.specs.Accepted.{elf_of}
 use Rattle.generated_module.proofs.EntryLists.{calls_from, jumps_from, traces_from}
 use Rattle.generated_module.proofs.FileTables.{calls-are, jumps-are, traces-are}

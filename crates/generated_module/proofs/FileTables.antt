@@ -10,7 +10,7 @@ use Rattle.site_tables.specs.declared.entries.CallSite.{CallSite}
 use Rattle.written_module.specs.Written.{call_of, jump_of, trace_of}
 use Rattle.module_parts.specs.declared.entry.Entry.{Entry}
 use Rattle.module_parts.specs.declared.entry.EntryKind.TheVariants.{Jump, Call, Tail}
-use Rattle.module_image.specs.Entries.{call_entry, jump_entry, trace_entry}
+use Rattle.module_names.specs.Entries.{call_entry, jump_entry, trace_entry}
 use Rattle.generated_module.proofs.EntryLists.{block_calls, block_jumps, block_traces, calls_from, jumps_from, traces_from}
 
 -- a jump in front of others

@@ -4,7 +4,7 @@ use Rattle.std.specs.Int.{w8, w32, to_le_bytes}
 use Rattle.std.proofs.lemmas.Option.{same_Some}
 use Rattle.insn_forms.specs.Displacement.{displacement, distance, leads}
 use Rattle.insn_forms.proofs.Displacements.{relative}
-use Rattle.module_image.proofs.Distances.{near_displaced}
+use Rattle.module_laws.proofs.Distances.{near_displaced}
 use Rattle.elf_build.specs.Generated.{blocks}
 use Rattle.insn_forms.specs.Spelling.{after}
 use Rattle.elf_build.specs.File.{lead}

@@ -7,7 +7,7 @@ use Rattle.elf_build.specs.Generated.{block_len, block_of, blocks}
 use Rattle.module_parts.specs.declared.entry.Entry.{Entry}
 use Rattle.module_parts.specs.declared.key.KeyClass.{KeyClass}
 use Rattle.module_parts.specs.declared.key.KeyClass.TheVariants.{Jump, Call}
-use Rattle.module_image.specs.Keys.{gathered, key_in, place_in, with_key, with_named}
+use Rattle.module_names.specs.Keys.{gathered, key_in, place_in, with_key, with_named}
 use Rattle.generated_module.proofs.Each.{each-append}
 use Rattle.generated_module.proofs.EntryLists.{block_calls, block_entry, block_jumps, block_traces, call-table, calls_from, each-any, jump-table, jumps_from, trace-table, traces_from}
 

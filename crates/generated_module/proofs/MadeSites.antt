@@ -9,7 +9,7 @@ use Rattle.x64_subset.specs.Reading.{read}
 use Rattle.module_parts.specs.declared.site.Site.{Site}
 use Rattle.module_parts.specs.declared.site.SiteKind.{SiteKind}
 use Rattle.module_parts.specs.declared.site.SiteKind.TheVariants.{Jump, Call, Tail, Trace}
-use Rattle.module_image.specs.Entries.{answer_len, length_at}
+use Rattle.module_names.specs.Entries.{answer_len, length_at}
 use Rattle.module_image.specs.Refusals.{IsBadLength, room_of}
 use Rattle.module_image.specs.Sites.{is_early, is_foreign, made, site_of}
 use Rattle.generated_module.proofs.Blocks.{Stands, block_made, drop-further, made_from, stands-next}

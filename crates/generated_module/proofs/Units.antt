@@ -16,7 +16,7 @@ use Rattle.module_image.proofs.Between.{all_from}
 use Rattle.module_image.proofs.Marking.{patched_parts, some_len}
 use Rattle.module_image.proofs.Positions.{found_some}
 use Rattle.module_image.proofs.UnitLaws.{site_unit}
-use Rattle.module_image.proofs.WrittenSites.{IsOff}
+use Rattle.module_laws.proofs.WrittenSites.{IsOff}
 use Rattle.generated_module.proofs.Pieces.{Piece, IsPiece}
 
 -- no site has bytes among those at an address

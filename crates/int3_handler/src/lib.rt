@@ -2,7 +2,5 @@
 #![tactic(auto)]
 
 mod handler;
-#[cfg(test)]
-mod tests;
 
 pub use handler::{Handled, emulate, handle};

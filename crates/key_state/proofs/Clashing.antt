@@ -21,10 +21,10 @@ use Rattle.module_image.specs.Layout.{site_at}
 use Rattle.module_image.specs.Lent.{IsLaidOut}
 use Rattle.module_image.specs.Module.{IsAccepted, Module, States, layout_of}
 use Rattle.module_image.specs.Sites.{code_at}
-use Rattle.module_image.proofs.HeldForms.{foreign_hold, foreign_off}
+use Rattle.module_laws.proofs.HeldForms.{foreign_hold, foreign_off}
 use Rattle.module_image.proofs.Lent.{sites_laid_out}
 use Rattle.module_image.proofs.UnitLaws.{site_is, site_numbered}
-use Rattle.module_image.proofs.WrittenSites.{IsOff}
+use Rattle.module_laws.proofs.WrittenSites.{IsOff}
 use Rattle.poke_batch.specs.Clash.{held_bytes, holds_old}
 use Rattle.poke_batch.specs.Poke.{spelled}
 

@@ -9,7 +9,7 @@ use Rattle.module_parts.specs.declared.key.Key.{Key}
 use Rattle.module_image.specs.Held.{first_states}
 use Rattle.module_image.specs.Module.{IsAccepted, Module}
 use Rattle.module_image.specs.Sites.{starts_of}
-use Rattle.module_image.proofs.HeldWanted.{wanted_held}
+use Rattle.module_laws.proofs.HeldWanted.{wanted_held}
 use Rattle.module_image.proofs.Lent.{counts_fit}
 use Rattle.module_image.proofs.StartLaws.{first_states as first_lead}
 

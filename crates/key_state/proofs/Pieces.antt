@@ -7,7 +7,7 @@ use Rattle.std.proofs.lemmas.Option.{none-some, same_Some, slice_get-get_or}
 use Rattle.std.proofs.lemmas.Grind.{common_steps}
 use Rattle.insn_forms.specs.History.{text_byte}
 use Rattle.module_image.specs.Sites.{code_at, put_at}
-use Rattle.module_image.proofs.Spliced.{beside_put}
+use Rattle.module_laws.proofs.Spliced.{beside_put}
 use Rattle.poke_batch.specs.Clash.{held_bytes}
 
 -- a piece of nothing is nothing

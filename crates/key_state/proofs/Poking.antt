@@ -14,7 +14,7 @@ use Rattle.key_state.proofs.Pieces.{some_byte}
 use Rattle.module_parts.specs.declared.site.Site.{Site}
 use Rattle.module_image.specs.Module.{IsAccepted, Module, States, wants}
 use Rattle.module_image.proofs.Lent.{sites_laid_out}
-use Rattle.module_image.proofs.Reaching.{forms_reach}
+use Rattle.module_laws.proofs.Reaching.{forms_reach}
 use Rattle.poke_batch.specs.Clash.{IsPatchable}
 
 -- a form has a spelling at an address, of n bytes

@@ -22,7 +22,7 @@ use Rattle.module_image.specs.Lent.{IsLaidOut}
 use Rattle.module_image.specs.Module.{IsAccepted, Module, States, wants}
 use Rattle.module_image.specs.Sites.{code_at, put_at}
 use Rattle.module_image.proofs.Lent.{sites_laid_out}
-use Rattle.module_image.proofs.Spliced.{at_put, beside_put}
+use Rattle.module_laws.proofs.Spliced.{at_put, beside_put}
 use Rattle.poke_batch.specs.Poke.{spelled}
 
 -- while the changes of the sites before one are written, those hold what they want after, and the others what they wanted

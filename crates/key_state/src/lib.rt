@@ -9,8 +9,6 @@ pub mod laws;
 mod lines;
 mod outcome;
 mod settled;
-#[cfg(test)]
-mod tests;
 mod writing;
 
 pub use count::CountRefused;

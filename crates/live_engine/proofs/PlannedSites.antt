@@ -9,7 +9,7 @@ use Rattle.live_text.specs.declared.plan.LiveSite.{LiveSite}
 use Rattle.module_parts.specs.declared.site.Site.{Site}
 use Rattle.module_image.specs.Held.{first_states}
 use Rattle.module_image.specs.Module.{IsAccepted, Module, States, wants}
-use Rattle.module_image.proofs.HeldWanted.{wanted_held}
+use Rattle.module_laws.proofs.HeldWanted.{wanted_held}
 use Rattle.live_engine.specs.FirstForms.{StartsAsWanted}
 use Rattle.live_engine.specs.LivePlan.{IsLiveSite, is_patched}
 

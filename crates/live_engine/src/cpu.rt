@@ -6,7 +6,7 @@ use int3_handler::emulate;
 use live_text::laws::{bytes_go_by_phases, chunks_are_poked};
 use live_text::{CpuSeat, LiveText};
 use module_image::Image;
-use module_image::laws::{patched_sites_flow, plain_instructions_flow, starts_have_units};
+use module_laws::{patched_sites_flow, plain_instructions_flow, starts_have_units};
 use std::marker::Model;
 use x64_subset::{Life, Mark, Proc, execute};
 

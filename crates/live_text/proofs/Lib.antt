@@ -15,4 +15,3 @@ mod Places
 mod Pokes
 mod Phases
 mod Breakpoints
-mod TestPlans

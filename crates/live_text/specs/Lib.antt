@@ -12,7 +12,6 @@ pub mod Versions
 pub mod Calls
 pub mod Table
 pub mod Laws
-pub mod Tests
 pub mod PatchKept
 pub mod CpuKept
 pub mod TextKept

@@ -8,8 +8,6 @@ mod layout;
 pub mod patch;
 pub mod plan;
 mod rule;
-#[cfg(test)]
-mod tests;
 pub mod text;
 pub mod view;
 

@@ -5,7 +5,7 @@ use Rattle.std.proofs.lemmas.List.Filters.{length-filter_more}
 use Rattle.std.proofs.lemmas.Option.{slice_get-get_or, same_Some, none-some}
 use Rattle.elf_module.specs.Elf.{Elf, SectionRecord}
 use Rattle.module_parts.specs.declared.refused.Refused.TheVariants.{TextCount}
-use Rattle.module_image.specs.Entries.{is_text, text_sections}
+use Rattle.module_names.specs.Entries.{is_text, text_sections}
 use Rattle.module_image.specs.Refusals.{IsRefusedFor}
 use Rattle.module_image.specs.Tables.{is_text_in}
 use Rattle.module_image.proofs.Passed.{passes_first}

@@ -9,12 +9,12 @@ use Rattle.module_parts.specs.declared.site.Site.{Site}
 use Rattle.module_parts.specs.declared.unit.Unit.{Unit}
 use Rattle.module_parts.specs.declared.unit.Unit.TheVariants.{Plain}
 use Rattle.module_image.specs.Aims.{AllLead, jump_aims, key_aims}
-use Rattle.module_image.specs.Entries.{base}
-use Rattle.module_image.specs.Keys.{keys}
+use Rattle.module_names.specs.Entries.{base}
+use Rattle.module_names.specs.Keys.{keys}
 use Rattle.module_image.specs.Layout.{Layout, IsFalling, IsStart, IsSwept, is_tail_site, laid, layout, len_of, may_end, never_falls, text_end, unit_at, unit_len}
 use Rattle.module_image.specs.Layout.IsStart.{the_end}
 use Rattle.module_image.specs.Module.{Module, IsModule, layout_of}
-use Rattle.module_image.specs.Names.{functions}
+use Rattle.module_names.specs.Names.{functions}
 use Rattle.module_image.specs.Refusals.{function_aims, past_all, past_site_overlap}
 use Rattle.module_image.specs.Sites.{sites, text}
 use Rattle.module_image.specs.Text.{AreApart, AreInside}

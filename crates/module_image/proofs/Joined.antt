@@ -7,9 +7,9 @@ use Rattle.module_parts.specs.declared.refused.Refused.TheVariants.{Undecoded, B
 use Rattle.module_image.specs.declared.text.Text.{Text}
 use Rattle.module_parts.specs.declared.unit.Aim.{Aim}
 use Rattle.module_parts.specs.declared.unit.Unit.{Unit}
-use Rattle.module_image.specs.Entries.{entries, file_text}
-use Rattle.module_image.specs.Keys.{keys}
-use Rattle.module_image.specs.Names.{functions}
+use Rattle.module_names.specs.Entries.{entries, file_text}
+use Rattle.module_names.specs.Keys.{keys}
+use Rattle.module_names.specs.Names.{functions}
 use Rattle.module_image.specs.Sites.{sites}
 use Rattle.module_image.specs.Layout.{Layout, IsSwept, layout}
 use Rattle.module_image.specs.Aims.{AllLead, AllReach, IsFirstBad, IsFirstBadOf, of_plain, of_jumps, of_keys, of_functions, jump_aims, key_aims}

@@ -11,7 +11,7 @@ use Rattle.module_parts.specs.declared.key.KeyClass.{KeyClass}
 use Rattle.module_parts.specs.declared.key.KeyClass.TheVariants.{Jump, Call}
 use Rattle.module_image.specs.First.{NoneBelow}
 use Rattle.module_image.specs.KeyStarts.{start_in}
-use Rattle.module_image.specs.Keys.{IsUnloaded, key_addresses, key_of, keys, loaded_after, start_of}
+use Rattle.module_names.specs.Keys.{IsUnloaded, key_addresses, key_of, keys, loaded_after, start_of}
 
 -- a byte of those that were loaded from a key's address on
 byte_after : (sections : List SectionRecord) (at k : ℕ) (bytes : List (Option ℕ)) → bytes ≡ loaded_from sections 16 at → k < 16 → get_or bytes k None ≡ loaded_after sections at k

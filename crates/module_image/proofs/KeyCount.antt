@@ -6,11 +6,11 @@ use Rattle.module_parts.specs.declared.entry.Entry.{Entry}
 use Rattle.module_parts.specs.declared.entry.EntryKind.{EntryKind}
 use Rattle.module_parts.specs.declared.entry.EntryKind.TheVariants.{Jump as JumpEntry, Call as CallEntry, Tail as TailEntry, Trace as TraceEntry}
 use Rattle.module_parts.specs.declared.key.KeyClass.TheVariants.{Jump as JumpKey, Call as CallKey}
-use Rattle.module_image.specs.Entries.{entries}
-use Rattle.module_image.specs.Keys.{gathered, key_addresses, key_in, key_of, keys, with_named}
+use Rattle.module_names.specs.Entries.{entries}
+use Rattle.module_names.specs.Keys.{gathered, key_addresses, key_in, key_of, keys, with_named}
 use Rattle.module_image.specs.Refusals.{Passes, past_site_count}
 use Rattle.module_image.proofs.Passed.{few_entries}
-use Rattle.module_image.proofs.Rising.{length-with_key}
+use Rattle.module_names.proofs.Rising.{length-with_key}
 
 -- an entry names one key, of one class, or none
 few_named : (kind : EntryKind) (js cs : List ℕ) → length (with_named (key_in JumpKey kind) js) + length (with_named (key_in CallKey kind) cs) ≤ length js + length cs + 1

@@ -11,8 +11,8 @@ use Rattle.module_parts.specs.declared.key.KeyClass.{KeyClass}
 use Rattle.module_parts.specs.declared.key.KeyClass.TheVariants.{Jump as JumpKey, Call as CallKey}
 use Rattle.module_parts.specs.declared.site.Site.{Site}
 use Rattle.module_parts.specs.declared.site.SiteKind.TheVariants.{Call, Tail}
-use Rattle.module_image.specs.Entries.{base, entries, file_text}
-use Rattle.module_image.specs.Keys.{key_in, with_key, with_named, gathered, key_addresses, place_in, number_of, key_of, keys}
+use Rattle.module_names.specs.Entries.{base, entries, file_text}
+use Rattle.module_names.specs.Keys.{key_in, with_key, with_named, gathered, key_addresses, place_in, number_of, key_of, keys}
 use Rattle.module_image.specs.Lent.{IsKeyOf, IsKeyed}
 use Rattle.module_image.specs.Module.{Module, IsModule}
 use Rattle.module_image.specs.Sites.{kind_of, site_of, sites}

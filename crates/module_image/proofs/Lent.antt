@@ -18,10 +18,10 @@ use Rattle.module_image.specs.First.{HasNone}
 use Rattle.module_image.specs.Flows.{HasInsn, HasSite, StartsHaveUnits}
 use Rattle.module_image.specs.Inside.{IsSound, module_of}
 use Rattle.module_image.specs.Layout.{Layout, site_at, unit_at, unit_len, unit_of}
-use Rattle.module_image.specs.Keys.{keys}
+use Rattle.module_names.specs.Keys.{keys}
 use Rattle.module_image.specs.Lent.{CountsFit, IsInsnAt, IsLaidOut, IsPatchedSite, IsPlaceOf, IsTraceSite, KeyNamesAreKnown, SitesAreLaidOut, TraceSitesAreFound, TraceSitesHaveATracer}
 use Rattle.module_image.specs.Module.{IsModule, Module, first_of, is_trace, is_trace_at, layout_of, plain_at, plain_of, trace_at, tracer_of}
-use Rattle.module_image.specs.Names.{tracer_name, value_of}
+use Rattle.module_names.specs.Names.{tracer_name, value_of}
 use Rattle.module_image.specs.Refusals.{IsBadState, IsTrace, past_all, past_key_state, past_site_count, past_site_overlap, past_tracer_missing}
 use Rattle.module_image.specs.Sites.{sites}
 use Rattle.module_image.proofs.Grounds.{module_ground}

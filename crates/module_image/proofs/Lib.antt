@@ -2,9 +2,6 @@ pub mod Counted
 pub mod Listed
 pub mod Firsts
 pub mod Passed
-pub mod Named
-pub mod Rising
-pub mod SymbolNames
 pub mod Ascending
 pub mod SiteLaws
 pub mod WantedForms
@@ -27,15 +24,6 @@ pub mod NamedKeys
 pub mod Reached
 pub mod Grounds
 pub mod StartLaws
-pub mod Spliced
-pub mod EarlyForms
-pub mod WrittenSites
-pub mod HeldForms
-pub mod Distances
-pub mod Reaching
-pub mod HeldWanted
 pub mod Flowing
 pub mod PlainFlows
-pub mod SiteFlows
 pub mod Lent
-pub mod FileBytes

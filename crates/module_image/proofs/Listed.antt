@@ -13,7 +13,7 @@ use Rattle.site_tables.specs.Found.{AreWhole, IsWhole, section_in}
 use Rattle.site_tables.specs.Tables.{content_of, entries_in}
 use Rattle.site_tables.proofs.Wholes.{whole_entries}
 use Rattle.module_parts.specs.declared.entry.Entry.{Entry}
-use Rattle.module_image.specs.Entries.{jump_entry, call_entry, trace_entry}
+use Rattle.module_names.specs.Entries.{jump_entry, call_entry, trace_entry}
 use Rattle.module_image.specs.Tables.{entry_in, table_entries, entries_of}
 
 -- no bytes are no entries

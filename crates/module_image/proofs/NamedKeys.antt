@@ -6,10 +6,10 @@ use Rattle.std.proofs.lemmas.Option.{none-some, same_Some}
 use Rattle.elf_module.specs.Elf.{Elf, SymbolRecord}
 use Rattle.module_parts.specs.declared.key.Key.{Key}
 use Rattle.module_parts.specs.declared.key.KeyClass.TheVariants.{Jump as JumpKey, Call as CallKey}
-use Rattle.module_image.specs.Keys.{key_addresses, keys, place_in}
+use Rattle.module_names.specs.Keys.{key_addresses, keys, place_in}
 use Rattle.module_image.specs.Lent.{IsKeyOf, NamesAreKnown}
 use Rattle.module_image.specs.Module.{IsModule, Module}
-use Rattle.module_image.specs.Names.{is_key, keys_from, value_of}
+use Rattle.module_names.specs.Names.{is_key, keys_from, value_of}
 use Rattle.module_image.proofs.KeyNumbers.{call_place, jump_place}
 
 -- the number that a name stands for is that of one of the keys

@@ -7,9 +7,9 @@ use Rattle.module_parts.specs.declared.key.Key.{Key}
 use Rattle.module_parts.specs.declared.refused.Refused.{Refused}
 use Rattle.module_parts.specs.declared.refused.Refused.TheVariants.{TextCount, SiteCount, SiteOutside, SiteLength, KeyOutside, KeyState, NoReach, TracerMissing}
 use Rattle.module_image.specs.First.{HasNone, IsFirst}
-use Rattle.module_image.specs.Entries.{entries}
-use Rattle.module_image.specs.Keys.{keys}
-use Rattle.module_image.specs.Names.{tracer}
+use Rattle.module_names.specs.Entries.{entries}
+use Rattle.module_names.specs.Keys.{keys}
+use Rattle.module_names.specs.Names.{tracer}
 use Rattle.module_image.specs.Sites.{sites}
 use Rattle.module_image.specs.Refusals.{HasBadLength, HasBadState, Holds, IsKeyOutside, IsOutOfReach, IsOutside, IsRefusedFor, IsTrace, Passes, order, past_key_outside, past_key_state, past_no_reach, past_site_count, past_site_length, past_site_outside, past_site_overlap, past_tracer_missing}
 use Rattle.module_image.proofs.Firsts.{has_none, none_first}

@@ -12,7 +12,7 @@ use Rattle.module_parts.specs.declared.site.SiteKind.TheVariants.{Jump, Call, Ta
 use Rattle.module_parts.specs.declared.unit.Aim.{Aim}
 use Rattle.module_image.specs.Aims.{AllReach, jump_aim, jump_aims, key_aim, key_aims}
 use Rattle.module_image.specs.Layout.{Layout, IsStart}
-use Rattle.module_image.specs.Names.{Named, value_of}
+use Rattle.module_names.specs.Names.{Named, value_of}
 use Rattle.module_image.specs.Refusals.{function_aims}
 
 -- what holds of all ways holds of those after the first site or key

@@ -12,7 +12,7 @@ use Rattle.module_parts.specs.declared.entry.EntryKind.TheVariants.{Jump as Jump
 use Rattle.module_parts.specs.declared.refused.Refused.TheVariants.{SiteOverlap}
 use Rattle.module_parts.specs.declared.site.Site.{Site}
 use Rattle.module_image.specs.Early.{HasCallLen, HaveCallLens}
-use Rattle.module_image.specs.Entries.{answer_len, length_at}
+use Rattle.module_names.specs.Entries.{answer_len, length_at}
 use Rattle.module_image.specs.First.{HasNone}
 use Rattle.module_image.specs.Refusals.{IsBadLength, IsOutsideOf, Passes, past_site_overlap, room_of}
 use Rattle.module_image.specs.Sites.{ascending, entry_len, insert_site, kind_of, overlap_after, site_of, sites}

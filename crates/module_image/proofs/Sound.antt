@@ -8,10 +8,10 @@ use Rattle.module_parts.specs.declared.site.Site.{Site}
 use Rattle.module_parts.specs.declared.unit.Aim.{Aim}
 use Rattle.module_image.specs.Aims.{function_aim}
 use Rattle.module_image.specs.Early.{HaveCallLens}
-use Rattle.module_image.specs.Entries.{base, entries, file_text, text_index}
+use Rattle.module_names.specs.Entries.{base, entries, file_text, text_index}
 use Rattle.module_image.specs.Found.{IsFound}
-use Rattle.module_image.specs.Keys.{gathered, key_addresses}
-use Rattle.module_image.specs.Names.{Named, functions, functions_from}
+use Rattle.module_names.specs.Keys.{gathered, key_addresses}
+use Rattle.module_names.specs.Names.{Named, functions, functions_from}
 use Rattle.module_image.specs.Refusals.{Passes, function_aims, past_site_count, past_site_length, past_site_outside, past_site_overlap}
 use Rattle.module_image.specs.Sites.{ascending, site_of, sites}
 use Rattle.module_image.specs.Text.{AreApart, AreInside, IsText}

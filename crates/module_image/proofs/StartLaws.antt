@@ -4,10 +4,10 @@ use Rattle.std.proofs.lemmas.Bool.{le-ltb}
 use Rattle.std.proofs.lemmas.Option.{get_or_from_slice_get, slice_get-map}
 use Rattle.elf_module.specs.Elf.{Elf}
 use Rattle.module_parts.specs.declared.key.Key.{Key}
-use Rattle.module_image.specs.Keys.{keys}
+use Rattle.module_names.specs.Keys.{keys}
 use Rattle.module_image.specs.Layout.{IsStart}
 use Rattle.module_image.specs.Module.{IsAccepted, IsModule, Module, layout_of, plain_of}
-use Rattle.module_image.specs.Names.{functions, value_of}
+use Rattle.module_names.specs.Names.{functions, value_of}
 use Rattle.module_image.specs.Sites.{starts_of}
 use Rattle.module_image.specs.Command.{CommandsLeadWell, IsFunction}
 use Rattle.module_image.specs.Flows.{FunctionsAreStarts, SitesAreStarts}

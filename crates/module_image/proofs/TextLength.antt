@@ -8,8 +8,8 @@ use Rattle.insn_forms.specs.Spelling.{size, spell}
 use Rattle.insn_forms.proofs.Spellings.{length-spell}
 use Rattle.module_parts.specs.declared.site.Site.{Site}
 use Rattle.module_image.specs.Early.{HasCallLen, HaveCallLens}
-use Rattle.module_image.specs.Entries.{base, file_text}
-use Rattle.module_image.specs.Keys.{keys}
+use Rattle.module_names.specs.Entries.{base, file_text}
+use Rattle.module_names.specs.Keys.{keys}
 use Rattle.module_image.specs.Refusals.{Passes, past_site_overlap}
 use Rattle.module_image.specs.Sites.{early_form, form_code, put_at, site_written, sites, starts_of, text, written}
 use Rattle.module_image.specs.Text.{AreInside, IsInside}

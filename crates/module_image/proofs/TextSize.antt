@@ -3,7 +3,7 @@ use Rattle.std.proofs.Common.{◌≡◌, ◌≤◌, ◌∙◌, inl, inr, ℕ, Li
 use Rattle.std.proofs.lemmas.Bool.{cases_lt}
 use Rattle.elf_module.specs.Elf.{Elf, SectionRecord}
 use Rattle.module_parts.specs.declared.refused.Refused.TheVariants.{TextCount, TextSize}
-use Rattle.module_image.specs.Entries.{bytes_of, file_text, text_section, text_sections}
+use Rattle.module_names.specs.Entries.{bytes_of, file_text, text_section, text_sections}
 use Rattle.module_image.specs.Module.{IsModule, Module}
 use Rattle.module_image.specs.Refusals.{IsBadText, Passes, past_all, past_site_overlap, past_text_size}
 use Rattle.module_image.proofs.Counted.{none_named}

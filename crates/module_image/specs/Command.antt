@@ -6,7 +6,7 @@ use Rattle.module_parts.specs.declared.key.KeyClass.TheVariants.{Jump as JumpKey
 use Rattle.module_image.specs.Layout.{IsStart}
 use Rattle.module_image.specs.Lent.{IsKeyOf, IsTraceSite}
 use Rattle.module_image.specs.Module.{Module, IsAccepted, layout_of}
-use Rattle.module_image.specs.Names.{value_of}
+use Rattle.module_names.specs.Names.{value_of}
 
 -- a name of a function stands for an address
 abbrev pub IsFunction : Module → ℕ → Type 0

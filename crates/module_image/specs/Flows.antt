@@ -11,7 +11,7 @@ use Rattle.module_parts.specs.declared.key.KeyClass.TheVariants.{Call as CallKey
 use Rattle.module_parts.specs.declared.site.Site.{Site}
 use Rattle.module_image.specs.Layout.{Layout, IsStart, site_at}
 use Rattle.module_image.specs.Lent.{IsPatchedSite}
-use Rattle.module_image.specs.Names.{value_of}
+use Rattle.module_names.specs.Names.{value_of}
 use Rattle.module_image.specs.Module.{Module, IsAccepted, States, layout_of, plain_at, wants}
 
 -- a running processor stands at a start, and each address to which it returns is one

@@ -5,9 +5,9 @@ use Rattle.elf_module.specs.Elf.{Elf}
 use Rattle.module_image.specs.declared.finding.Found.{Found}
 use Rattle.module_image.specs.declared.swept.Swept.{Swept}
 use Rattle.module_parts.specs.declared.key.KeyClass.TheVariants.{Jump, Call}
-use Rattle.module_image.specs.Entries.{file_text}
-use Rattle.module_image.specs.Keys.{key_addresses, keys}
-use Rattle.module_image.specs.Names.{functions}
+use Rattle.module_names.specs.Entries.{file_text}
+use Rattle.module_names.specs.Keys.{key_addresses, keys}
+use Rattle.module_names.specs.Names.{functions}
 use Rattle.module_image.specs.Sites.{sites, text}
 use Rattle.module_image.specs.Early.{HaveCallLens}
 use Rattle.module_image.specs.Layout.{IsSwept, layout}

@@ -4,7 +4,7 @@ use Rattle.elf_module.specs.Elf.{Elf}
 use Rattle.insn_forms.specs.declared.forms.Form.{Form}
 use Rattle.insn_forms.specs.Spelling.{spell}
 use Rattle.module_parts.specs.declared.site.Site.{Site}
-use Rattle.module_image.specs.Entries.{file_text}
+use Rattle.module_names.specs.Entries.{file_text}
 use Rattle.module_image.specs.Sites.{code_at, starts_of}
 use Rattle.module_image.specs.Module.{Module, IsAccepted, IsModule, States, wants}
 use Rattle.module_image.specs.Flows.{LeadWell}

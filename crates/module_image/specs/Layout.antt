@@ -10,7 +10,7 @@ use Rattle.module_parts.specs.declared.site.SiteKind.{SiteKind}
 use Rattle.module_parts.specs.declared.site.SiteKind.TheVariants.{Jump, Call, Tail, Trace}
 use Rattle.module_parts.specs.declared.unit.Unit.{Unit}
 use Rattle.module_parts.specs.declared.unit.Unit.TheVariants.{Nothing, Plain, Site as PatchedSite}
-use Rattle.module_image.specs.Entries.{base}
+use Rattle.module_names.specs.Entries.{base}
 use Rattle.module_image.specs.Sites.{sites, text}
 
 -- a text at an address, and its sites

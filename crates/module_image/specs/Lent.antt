@@ -11,7 +11,7 @@ use Rattle.module_parts.specs.declared.site.SiteKind.{SiteKind}
 use Rattle.module_parts.specs.declared.site.SiteKind.TheVariants.{Jump, Call, Tail, Trace}
 use Rattle.module_image.specs.Layout.{IsStart}
 use Rattle.module_image.specs.Module.{Module, IsAccepted, layout_of, trace_site_of, tracer_of}
-use Rattle.module_image.specs.Names.{Named, value_of}
+use Rattle.module_names.specs.Names.{Named, value_of}
 use Rattle.module_image.specs.Text.{AreApart, AreInside}
 
 -- a number is that of a key of a class

@@ -1,12 +1,6 @@
 pub mod First
-pub mod Entries
 pub mod Tables
-pub mod Keys
-pub mod KeyList
 pub mod KeyStarts
-pub mod Names
-pub mod Naming
-pub mod SymbolNames
 pub mod Wants
 pub mod Early
 pub mod Sites

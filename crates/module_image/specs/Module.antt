@@ -13,9 +13,9 @@ use Rattle.module_parts.specs.declared.site.SiteKind.{SiteKind}
 use Rattle.module_parts.specs.declared.site.SiteKind.TheVariants.{Jump, Call, Tail, Trace}
 use Rattle.module_parts.specs.declared.unit.Unit.{Unit}
 use Rattle.module_parts.specs.declared.unit.Unit.TheVariants.{Nothing, Plain, Site as PatchedSite}
-use Rattle.module_image.specs.Entries.{base}
-use Rattle.module_image.specs.Keys.{keys}
-use Rattle.module_image.specs.Names.{Named, value_of, functions, key_names, tracer_name}
+use Rattle.module_names.specs.Entries.{base}
+use Rattle.module_names.specs.Keys.{keys}
+use Rattle.module_names.specs.Names.{Named, value_of, functions, key_names, tracer_name}
 use Rattle.module_image.specs.Sites.{sites, text}
 use Rattle.module_image.specs.Layout.{Layout, laid, layout, IsSwept}
 use Rattle.module_image.specs.Aims.{AllLead, jump_aims, key_aims}

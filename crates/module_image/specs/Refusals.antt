@@ -17,9 +17,9 @@ use Rattle.module_parts.specs.declared.unit.Aim.{Aim}
 use Rattle.module_parts.specs.declared.refused.Refused.{Refused}
 use Rattle.module_parts.specs.declared.refused.Refused.TheVariants.{TextCount, TextSize, Table, SiteCount, SiteOutside, SiteLength, SiteOverlap, KeyOutside, KeyState, NoReach, TracerMissing, Undecoded, BadTarget, EndFalls, NoMemory}
 use Rattle.module_image.specs.First.{IsFirst}
-use Rattle.module_image.specs.Entries.{text_sections, text_section, base, file_text, entries, length_at}
-use Rattle.module_image.specs.Keys.{keys, IsUnloaded}
-use Rattle.module_image.specs.Names.{Named, functions, tracer}
+use Rattle.module_names.specs.Entries.{text_sections, text_section, base, file_text, entries, length_at}
+use Rattle.module_names.specs.Keys.{keys, IsUnloaded}
+use Rattle.module_names.specs.Names.{Named, functions, tracer}
 use Rattle.module_image.specs.Sites.{sites, overlap_after}
 use Rattle.module_image.specs.Layout.{layout, IsUndecoded, IsFalling}
 use Rattle.module_image.specs.Aims.{IsFirstBadOf, jump_aims, key_aims, function_aim}

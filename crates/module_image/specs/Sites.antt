@@ -14,8 +14,8 @@ use Rattle.module_parts.specs.declared.key.KeyClass.TheVariants.{Jump as JumpKey
 use Rattle.module_parts.specs.declared.site.Site.{Site}
 use Rattle.module_parts.specs.declared.site.SiteKind.{SiteKind}
 use Rattle.module_parts.specs.declared.site.SiteKind.TheVariants.{Jump, Call, Tail, Trace}
-use Rattle.module_image.specs.Entries.{entries, base, file_text, length_at}
-use Rattle.module_image.specs.Keys.{key_addresses, number_of, keys}
+use Rattle.module_names.specs.Entries.{entries, base, file_text, length_at}
+use Rattle.module_names.specs.Keys.{key_addresses, number_of, keys}
 use Rattle.module_image.specs.Wants.{nop_of, jump_of, state_of, wanted}
 
 -- how many bytes a site has: a jump those of the instruction that stands there, which is 0 where none does

@@ -8,7 +8,7 @@ use Rattle.site_tables.specs.Entry.{entry_size, jump_in, call_in, trace_in}
 use Rattle.site_tables.specs.Found.{section_in}
 use Rattle.site_tables.specs.Tables.{entries_in}
 use Rattle.module_parts.specs.declared.entry.Entry.{Entry}
-use Rattle.module_image.specs.Entries.{is_text, jump_entry, call_entry, trace_entry}
+use Rattle.module_names.specs.Entries.{is_text, jump_entry, call_entry, trace_entry}
 
 -- there is a section, and it has the text's name
 abbrev pub is_text_in : Option SectionRecord → Bool

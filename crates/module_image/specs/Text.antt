@@ -4,7 +4,7 @@ use Rattle.elf_module.specs.Elf.{Elf}
 use Rattle.module_image.specs.declared.text.Text.{Text}
 use Rattle.module_image.specs.declared.text.Code.{Code}
 use Rattle.module_parts.specs.declared.site.Site.{Site}
-use Rattle.module_image.specs.Entries.{base, text_index, file_text}
+use Rattle.module_names.specs.Entries.{base, text_index, file_text}
 use Rattle.module_image.specs.Layout.{Layout, laid}
 
 -- the text of a file, which has 1 to 65,536 bytes and ends below the last address

@@ -1,9 +1,9 @@
 //! The conditions on a module's text once it is written.
 ghost use Rattle.std.specs.Prelude.{◌≡◌, ◌<◌, ◌≤◌, ◌+◌, ◌^◌, length, map, IfOk, OnOk};
 ghost use Rattle.module_image.specs.Aims.{AllLead, function_aim, jump_aims, key_aims};
-ghost use Rattle.module_image.specs.Keys.{keys};
+ghost use Rattle.module_names.specs.Keys.{keys};
 ghost use Rattle.module_image.specs.Layout.{IsSwept, layout};
-ghost use Rattle.module_image.specs.Names.{functions};
+ghost use Rattle.module_names.specs.Names.{functions};
 ghost use Rattle.module_image.specs.Refusals.{Passes, Tries, function_aims, past_all, past_bad_target, past_tracer_missing, past_undecoded};
 ghost use Rattle.module_image.specs.Sites.{sites};
 ghost use Rattle.module_image.specs.Text.{AreApart, AreInside, layout_in};

@@ -1,10 +1,9 @@
 //! The sites and keys of a file.
 ghost use Rattle.std.specs.Prelude.{◌≡◌, IfOk};
 ghost use Rattle.module_parts.specs.declared.key.KeyClass.TheVariants.{Jump, Call};
-ghost use Rattle.module_image.specs.Keys.{key_addresses, keys};
+ghost use Rattle.module_names.specs.Keys.{key_addresses, keys};
 ghost use Rattle.module_image.specs.Refusals.{Passes, Tries, past_site_overlap, past_key_state};
 
-use crate::key_list::KeyAddresses;
 use crate::key_starts::read_keys;
 use crate::listing::{entry_count, find_tables, listed};
 use crate::rows::{keys_state, site_count, sites_length, sites_outside};
@@ -12,6 +11,7 @@ use crate::site_list::{overlap, site_list};
 use crate::text_section::find_text;
 use crate::{Key, Refused, Site, Text};
 use elf_module::ElfFile;
+use module_names::KeyAddresses;
 use std::alloc::Global;
 
 /// The text of a file, its sites, ascending, and the addresses of the keys that they have.

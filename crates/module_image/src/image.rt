@@ -5,12 +5,11 @@ ghost use Rattle.module_image.specs.Module.{is_trace_at, trace_at};
 
 use crate::finding::{Found, find_keys};
 use crate::lookup::{plain_at, site_at};
-use crate::names::Names;
-use crate::naming::SymbolNames;
 use crate::rows::{no_reach, tracer_missing};
 use crate::swept::Swept;
 use crate::{Key, KeyClass, Refused, Site, SiteKind, Unit};
 use elf_module::ElfFile;
+use module_names::{Names, SymbolNames};
 use std::alloc::Global;
 use std::marker::Model;
 use x64_subset::Insn;
@@ -53,7 +52,7 @@ impl Image {
     ghost use Rattle.module_image.specs.First.{HasNone};
     ghost use Rattle.module_image.specs.Layout.{site_at};
     ghost use Rattle.module_image.specs.Lent.{IsInsnAt, IsKeyOf, IsPatchedSite, IsPlaceOf, IsTraceSite, KeysAreKnown};
-    ghost use Rattle.module_image.specs.Names.{value_of};
+    ghost use Rattle.module_names.specs.Names.{value_of};
     ghost use Rattle.module_image.specs.Module.{IsAccepted, IsModule, names_of, plain_at, trace_site_of, tracer_of};
     ghost use Rattle.module_image.specs.Refusals.{IsRefusedFor, IsTrace};
     ghost use Rattle.module_image.specs.Text.{AreInside, AreApart};

@@ -2,15 +2,15 @@
 ghost use Rattle.std.specs.Prelude.{◌≡◌, ◌<◌, ℕ, false, None, Some, length, map, slice_index_or, IfOk, IsTrue, MatchOption};
 ghost use Rattle.std.specs.List.{range_with_len};
 ghost use Rattle.std.specs.Option.{unwrap_or};
-ghost use Rattle.module_image.specs.Keys.{IsUnloaded, key_addresses, key_of, keys};
+ghost use Rattle.module_names.specs.Keys.{IsUnloaded, key_addresses, key_of, keys};
 ghost use Rattle.module_image.specs.KeyStarts.{start_in};
 ghost use Rattle.module_image.specs.Refusals.{Passes, Tries, past_key_outside, past_site_overlap};
 ghost use Rattle.module_parts.specs.declared.key.KeyClass.TheVariants.{Jump, Call};
 
-use crate::key_list::KeyAddresses;
 use crate::{Key, KeyClass, Refused};
 use byteorder::{ByteOrder, LittleEndian};
 use elf_module::ElfFile;
+use module_names::KeyAddresses;
 use std::alloc::Global;
 use std::array;
 

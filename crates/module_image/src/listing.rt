@@ -3,7 +3,7 @@ ghost use Rattle.std.specs.Prelude.{◌≡◌, ◌≤◌, ◌+◌, ◌*◌, ◌+
 ghost use Rattle.module_parts.specs.declared.refused.Refused.TheVariants.{NoMemory};
 ghost use Rattle.site_tables.specs.Entry.{entry_size};
 ghost use Rattle.site_tables.specs.Found.{AreWhole, IsWhole, section_in};
-ghost use Rattle.module_image.specs.Entries.{entries, jump_entry, call_entry};
+ghost use Rattle.module_names.specs.Entries.{entries, jump_entry, call_entry};
 ghost use Rattle.module_image.specs.Refusals.{Passes, Tries, past_table, past_text_size};
 ghost use Rattle.module_image.specs.Tables.{entries_of, entry_in, table_entries};
 

@@ -3,9 +3,9 @@
 ghost use Rattle.std.specs.Prelude.{◌≡◌, ◌≤◌, ◌<◌, ◌+◌, ◌^◌, ◌↔◌, length, IsTrue, None, OnOk};
 ghost use Rattle.insn_forms.specs.Spelling.{spell};
 ghost use Rattle.insn_forms.specs.declared.forms.Form.TheVariants.{Jmp8};
-ghost use Rattle.module_image.specs.Entries.{entries, length_at};
-ghost use Rattle.module_image.specs.Keys.{keys};
-ghost use Rattle.module_image.specs.Names.{tracer};
+ghost use Rattle.module_names.specs.Entries.{entries, length_at};
+ghost use Rattle.module_names.specs.Keys.{keys};
+ghost use Rattle.module_names.specs.Names.{tracer};
 ghost use Rattle.module_image.specs.Refusals.{HasBadState, IsBadLength, IsOutOfReach, IsOutsideOf, IsTrace, Passes, Tries, past_key_state, past_no_reach, past_site_count, past_site_length, past_site_outside, past_table, room_of, past_key_outside, past_tracer_missing};
 ghost use Rattle.module_image.specs.Sites.{sites};
 ghost use Rattle.module_image.specs.Text.{IsText};

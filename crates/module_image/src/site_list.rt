@@ -5,9 +5,9 @@ ghost use Rattle.module_image.specs.Refusals.{IsOutsideOf, Passes, Tries, past_s
 ghost use Rattle.module_image.specs.Sites.{ascending, code_at, entry_len, kind_of, site_of, sites};
 
 use crate::early::is_early;
-use crate::key_list::KeyAddresses;
 use crate::{Entry, EntryKind, KeyClass, Refused, Site, SiteKind, Text};
 use elf_module::ElfFile;
+use module_names::KeyAddresses;
 use std::alloc::Global;
 
 /// How many bytes the sites of calls and traces have.

@@ -1,8 +1,8 @@
 //! The text of a module once it is written and swept.
 ghost use Rattle.std.specs.Prelude.{◌≡◌, map, IfOk};
 ghost use Rattle.module_image.specs.Aims.{function_aim};
-ghost use Rattle.module_image.specs.Keys.{keys};
-ghost use Rattle.module_image.specs.Names.{functions};
+ghost use Rattle.module_names.specs.Keys.{keys};
+ghost use Rattle.module_names.specs.Names.{functions};
 ghost use Rattle.module_image.specs.Refusals.{Passes, Tries, function_aims, past_all, past_tracer_missing};
 
 use crate::checked::{end_falls, find_units, targets};

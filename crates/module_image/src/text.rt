@@ -1,6 +1,6 @@
 //! The text of a module.
 ghost use Rattle.std.specs.Prelude.{◌≡◌, ◌≤◌, ◌+◌, ◌<◌, length};
-ghost use Rattle.module_image.specs.Entries.{length_at};
+ghost use Rattle.module_names.specs.Entries.{length_at};
 
 use crate::Site;
 use x64_subset::decode;

@@ -1,7 +1,7 @@
 //! Finding the text of a file.
 ghost use Rattle.std.specs.Prelude.{◌≡◌, ◌<◌, ◌≤◌, ◌↔◌, ◌^◌, length, slice_get, Some, IsTrue, IfOk};
 ghost use Rattle.elf_module.specs.Elf.{section_of};
-ghost use Rattle.module_image.specs.Entries.{text_section, text_sections};
+ghost use Rattle.module_names.specs.Entries.{text_section, text_sections};
 ghost use Rattle.module_image.specs.Refusals.{HasBadSize, Passes, Tries, past_text_count, past_text_size};
 ghost use Rattle.module_image.specs.Tables.{is_text_in};
 ghost use Rattle.module_image.specs.Text.{IsText};

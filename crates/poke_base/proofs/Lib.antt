@@ -4,4 +4,3 @@ pub mod Files
 pub mod Listed
 pub mod Outsides
 pub mod ItemLines
-pub mod KnownBytes

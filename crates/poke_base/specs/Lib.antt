@@ -4,5 +4,3 @@ pub mod Host
 pub mod Stored
 pub mod Gives
 pub mod MemoryHost
-pub mod Written
-pub mod RealHost

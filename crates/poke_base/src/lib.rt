@@ -1,21 +1,18 @@
-//! What every crate of `textpoke` stands on: the outside of a program as a trait with two
-//! implementations, a bounded line of text, numbers and words.
+//! What every crate of `textpoke` stands on: the outside of a program as a trait, with an implementation in memory, a
+//! bounded line of text, numbers and words.
 #![tactic(auto)]
 
 pub mod host;
 pub mod line;
 pub mod memory;
 pub mod number;
-pub mod real;
 mod store;
-mod streams;
 pub mod words;
 
 pub use host::{AskedBy, Host, ReadFail, WriteFail};
 pub use line::{CodeBytes, Line, code_bytes, put_bytes, put_dec, put_hex, put_text};
 pub use memory::MemoryHost;
 pub use number::{read_dec, read_hex};
-pub use real::RealHost;
 use std::alloc::{AllocError, AllocFailed};
 use thiserror::Error;
 pub use words::next_word;

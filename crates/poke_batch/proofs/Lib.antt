@@ -10,4 +10,3 @@ mod Fields
 pub mod Underways
 pub mod Walks
 pub mod Flags
-mod ManySites

@@ -2,12 +2,8 @@
 #![tactic(auto)]
 
 pub mod batch;
-#[cfg(test)]
-mod chunk_tests;
 pub mod laws;
 mod patch;
 mod stage;
-#[cfg(test)]
-mod tests;
 
 pub use batch::{Batch, Clash, Due};

@@ -17,7 +17,7 @@ use Rattle.module_parts.specs.declared.unit.Unit.{Unit as TextUnit}
 use Rattle.module_parts.specs.declared.unit.Unit.TheVariants.{Nothing}
 use Rattle.module_image.specs.Layout.{IsSwept, Layout, layout, unit_len}
 use Rattle.module_image.specs.Module.{IsModule, Module, States, wants}
-use Rattle.module_image.specs.Names.{Named, tracer_name, value_of}
+use Rattle.module_names.specs.Names.{Named, tracer_name, value_of}
 use Rattle.module_image.specs.Wants.{state_of, wanted}
 use Rattle.run_journal.specs.declared.event.Event.{Event}
 use Rattle.run_journal.specs.declared.event.Event.TheVariants.{Begin, Write, Request, Take, Return, Plain, At, Handle, Tick}

@@ -7,8 +7,6 @@ mod letters;
 mod reader;
 mod reading;
 mod spelling;
-#[cfg(test)]
-mod tests;
 
 pub use event::Event;
 pub use reader::{BadLine, Reader};

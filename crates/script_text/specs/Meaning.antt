@@ -7,7 +7,7 @@ use Rattle.module_parts.specs.declared.command.Command.TheVariants as command
 use Rattle.module_parts.specs.declared.key.KeyClass.{KeyClass}
 use Rattle.module_parts.specs.declared.key.KeyClass.TheVariants.{Jump as JumpKey, Call as CallKey}
 use Rattle.module_image.specs.Module.{Module, names_of, trace_site_of}
-use Rattle.module_image.specs.Names.{value_of}
+use Rattle.module_names.specs.Names.{value_of}
 use Rattle.script_text.specs.declared.script.ScriptStep.{ScriptStep}
 use Rattle.script_text.specs.declared.script.ScriptStep.TheVariants as step
 use Rattle.script_text.specs.Grammar.{Line, Cpu, Inc, Dec, Enable, Disable, Call, Trace, Run, Drop}

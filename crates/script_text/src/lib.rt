@@ -19,8 +19,6 @@ mod lines;
 mod meaning;
 mod refused;
 mod script;
-#[cfg(test)]
-mod tests;
 
 pub use refused::{ScriptError, ScriptWhy};
 pub use script::{Script, ScriptStep};

@@ -6,8 +6,6 @@ mod choice;
 pub mod laws;
 pub mod log;
 mod row;
-#[cfg(test)]
-mod tests;
 pub mod text;
 mod values;
 pub mod window;

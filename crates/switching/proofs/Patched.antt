@@ -16,8 +16,8 @@ use Rattle.module_image.specs.Layout.{site_at}
 use Rattle.module_image.specs.Lent.{IsLaidOut}
 use Rattle.module_image.specs.Module.{IsAccepted, Module, States, layout_of, wants}
 use Rattle.module_image.proofs.Lent.{sites_laid_out, starts_units}
-use Rattle.module_image.proofs.Reaching.{forms_reach}
-use Rattle.module_image.proofs.SiteFlows.{patched_flows}
+use Rattle.module_laws.proofs.Reaching.{forms_reach}
+use Rattle.module_laws.proofs.SiteFlows.{patched_flows}
 use Rattle.module_image.proofs.UnitLaws.{site_is, site_numbered}
 use Rattle.key_state.specs.Changes.{AreStatesOf}
 use Rattle.key_state.proofs.Differing.{form_of, wants_form}

@@ -8,7 +8,7 @@ mod real_tests;
 mod tests;
 
 use crate::program::run;
-use poke_base::RealHost;
+use real_host::RealHost;
 use std::env;
 use std::process::ExitCode;
 

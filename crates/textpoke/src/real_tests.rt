@@ -1,6 +1,7 @@
 //! The host of the running program: files of its own, which are read and written.
 
-use poke_base::{Host, ReadFail, RealHost, WriteFail};
+use poke_base::{Host, ReadFail, WriteFail};
+use real_host::RealHost;
 use std::alloc::Global;
 use std::process::Abort;
 use std::test::Fail;

@@ -4,8 +4,6 @@
 mod arithmetic;
 mod condition;
 mod effect;
-#[cfg(test)]
-mod effect_tests;
 mod encode;
 mod flow;
 mod insn;
@@ -13,8 +11,6 @@ pub mod laws;
 mod operation;
 mod proc;
 mod reading;
-#[cfg(test)]
-mod tests;
 
 pub use effect::execute;
 pub use insn::{AluOp, Insn, Undecoded};

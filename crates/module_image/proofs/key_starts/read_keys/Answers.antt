@@ -1,7 +1,7 @@
 -- The first key that lacks a byte, one key more, and all of them.
 use Rattle.std.proofs.Common.{◌≤◌, ◌∙◌, ◌∷◌, ◌++◌, [], ap, refl, arith, length}
 use Rattle.module_parts.specs.declared.key.Key.{Key}
-use Rattle.module_image.specs.Keys.{key_of, keys}
+use Rattle.module_names.specs.Keys.{key_of, keys}
 use Rattle.module_image.specs.Refusals.{IsKeyOutside}
 use Rattle.module_image.proofs.Firsts.{none_at_end}
 use Rattle.module_image.proofs.KeyBytes.{below_next, key_here, keys_count, read_more}

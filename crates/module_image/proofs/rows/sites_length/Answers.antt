@@ -4,7 +4,7 @@ use Rattle.elf_module.specs.Elf.{Elf}
 use Rattle.module_parts.specs.declared.entry.Entry.{Entry}
 use Rattle.module_image.specs.declared.text.Text.{Text}
 use Rattle.module_image.specs.First.{HasNone}
-use Rattle.module_image.specs.Entries.{entries, length_at}
+use Rattle.module_names.specs.Entries.{entries, length_at}
 use Rattle.module_image.specs.Refusals.{HasBadLength, IsBadLength, IsOutside, IsOutsideOf, Passes, past_site_outside}
 use Rattle.module_image.specs.Text.{IsText}
 use Rattle.module_image.proofs.Firsts.{below_tested, first_tested, none_at_end}

@@ -1,7 +1,7 @@
 use Rattle.std.proofs.Common.{◌∙◌, List, [], ap, map}
 use Rattle.module_parts.specs.declared.entry.Entry.{Entry}
 use Rattle.module_parts.specs.declared.key.KeyClass.TheVariants.{Jump, Call}
-use Rattle.module_image.specs.Keys.{gathered}
+use Rattle.module_names.specs.Keys.{gathered}
 use Rattle.module_image.specs.Sites.{ascending, site_of}
 use Rattle.module_image.proofs.Sound.{is_found}
 use Rattle.module_image.proofs.Joined.{listed_inside}

@@ -1,8 +1,8 @@
 use Rattle.std.proofs.Common.{◌∙◌, List, ℕ, ap, arith, length, sym}
 use Rattle.std.proofs.lemmas.Result.{err_from_is_err_and}
 use Rattle.module_parts.specs.declared.key.KeyClass.TheVariants.{Jump}
-use Rattle.module_image.specs.Keys.{key_addresses}
-use Rattle.module_image.specs.Names.{functions_from, keys_from, value_of}
+use Rattle.module_names.specs.Keys.{key_addresses}
+use Rattle.module_names.specs.Names.{functions_from, keys_from, value_of}
 use Rattle.module_image.proofs.Lent.{sound_of}
 use Rattle.module_image.proofs.Sound.{found_aims}
 use Rattle.module_image.proofs.image.Image.accept.Goals as goal

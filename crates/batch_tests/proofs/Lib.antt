@@ -1,0 +1,2 @@
+mod ManySites
+mod HeldBytes

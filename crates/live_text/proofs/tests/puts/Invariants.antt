@@ -1,5 +1,0 @@
-use Rattle.live_text.specs.Own.{IsOwn}
-use Rattle.live_text.proofs.tests.puts.Given as goal
-
-abbrev pub invariant-loop : goal.invariant-loop
-invariant-loop g l = IsOwn l.text l.seat

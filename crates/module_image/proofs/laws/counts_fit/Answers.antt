@@ -1,5 +1,0 @@
-use Rattle.module_image.proofs.Lent.{counts_fit}
-use Rattle.module_image.proofs.laws.counts_fit.Goals as goal
-
-pub returns : goal.returns
-returns c = counts_fit

@@ -1,5 +1,0 @@
-use Rattle.module_image.proofs.FileBytes.{other_bytes, same_length}
-use Rattle.module_image.proofs.laws.other_bytes_are_the_files.Goals as goal
-
-pub returns : goal.returns
-returns c = record { bytes = other_bytes; length = same_length }

@@ -1,5 +1,0 @@
-use Rattle.module_image.proofs.PlainFlows.{plain_flows}
-use Rattle.module_image.proofs.laws.plain_instructions_flow.Goals as goal
-
-pub returns : goal.returns
-returns c = plain_flows

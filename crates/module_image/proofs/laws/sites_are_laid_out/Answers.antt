@@ -1,5 +1,0 @@
-use Rattle.module_image.proofs.Lent.{sites_laid_out}
-use Rattle.module_image.proofs.laws.sites_are_laid_out.Goals as goal
-
-pub returns : goal.returns
-returns c = sites_laid_out

@@ -1,5 +1,0 @@
-use Rattle.module_image.proofs.StartLaws.{sites_start}
-use Rattle.module_image.proofs.laws.sites_are_starts.Goals as goal
-
-pub returns : goal.returns
-returns c = sites_start

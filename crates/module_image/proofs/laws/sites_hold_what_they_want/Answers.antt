@@ -1,5 +1,0 @@
-use Rattle.module_image.proofs.HeldWanted.{wanted_held}
-use Rattle.module_image.proofs.laws.sites_hold_what_they_want.Goals as goal
-
-pub returns : goal.returns
-returns c = wanted_held

@@ -1,5 +1,0 @@
-use Rattle.module_image.proofs.Lent.{trace_sites_found}
-use Rattle.module_image.proofs.laws.trace_sites_are_found.Goals as goal
-
-pub returns : goal.returns
-returns c = trace_sites_found

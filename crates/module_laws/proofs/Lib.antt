@@ -1,0 +1,9 @@
+pub mod Spliced
+pub mod EarlyForms
+pub mod WrittenSites
+pub mod HeldForms
+pub mod Distances
+pub mod Reaching
+pub mod HeldWanted
+pub mod SiteFlows
+pub mod FileBytes

@@ -1,0 +1,6 @@
+pub mod Entries
+pub mod Keys
+pub mod KeyList
+pub mod Names
+pub mod Naming
+pub mod NamesGiven

@@ -1,5 +1,0 @@
-use Rattle.std.proofs.Common.{◌≡◌}
-use Rattle.poke_batch.proofs.chunk_tests.counts_what_is_due.Given as goal
-
-abbrev pub invariant-events : goal.invariant-events
-invariant-events g l = l.batch.cpus ≡ 16
