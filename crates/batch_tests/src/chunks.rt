@@ -1,7 +1,7 @@
 //! Updates of 300 sites, which are two chunks, on 16 processors.
 ghost use Rattle.std.specs.Prelude.{◌≡◌, ◌<◌, ◌-◌, ◌%◌, ◌^◌, ◌==◌, nat_lt, if◌then◌else◌, None, Some, OnErr};
 
-use crate::frame::{acknowledge, request, write};
+use crate::frame::{acknowledge, clashes, finish, request, write};
 use insn_forms::{Change, Changes, Form, Held};
 use poke_batch::{Batch, Clash, Due};
 use std::alloc::Global;
@@ -131,20 +131,12 @@ fn refuse(rt: &impl Abort, alloc: Global, batch: &mut Batch, site: u32)
     ensures idle { batch.new.update ≡ None }
     ensures room { batch.new.sites ≡ 300 }
 {
-    match open(rt, alloc, batch, 5 * u64::from(site)) {
-        Ok(()) => panic!(rt; "no clash"),
-        Err(clash) => {
-            assert_eq!(rt; clash.at, address(site));
-            assert_eq!(rt;
-                clash.found.as_slice(),
-                [0x90, 0xcc, 0xcc, 0xcc, 0xcc].as_slice()
-            );
-            assert_eq!(rt;
-                clash.expected.as_slice(),
-                [0xc3, 0xcc, 0xcc, 0xcc, 0xcc].as_slice()
-            );
-        }
-    }
+    let opened = open(rt, alloc, batch, 5 * u64::from(site));
+    let (found, expected) = (
+        [0x90, 0xcc, 0xcc, 0xcc, 0xcc],
+        [0xc3, 0xcc, 0xcc, 0xcc, 0xcc],
+    );
+    clashes(rt, opened, address(site), &found, &expected);
     assert_eq!(rt; batch.due(), Due::Idle);
 }
 
@@ -155,10 +147,7 @@ fn pokes_two_chunks(rt: HostRuntime) {
     poke(&rt, &mut batch, 0, 256);
     poke(&rt, &mut batch, 256, 300);
     find(&rt, &batch, 256, 300);
-    let due = batch.due();
-    assert_eq!(rt; due, Due::Return);
-    batch.took();
-    assert_eq!(rt; batch.due(), Due::Idle);
+    finish(&rt, &mut batch);
     find(&rt, &batch, 300, 300);
 }
 

@@ -1,8 +1,8 @@
 //! A text to poke, and the events of an update one by one.
-ghost use Rattle.std.specs.Prelude.{◌≡◌, ◌<◌, ◌-◌, nat_lt, if◌then◌else◌, None, slice_get};
+ghost use Rattle.std.specs.Prelude.{◌≡◌, ◌<◌, ◌-◌, nat_lt, if◌then◌else◌, None, IsErr, slice_get};
 
 use insn_forms::Held;
-use poke_batch::{Batch, Due};
+use poke_batch::{Batch, Clash, Due};
 use std::process::Abort;
 
 /// The bytes of a text from an address on.
@@ -51,4 +51,24 @@ pub fn acknowledge(rt: &impl Abort, batch: &mut Batch, cpu: u8)
     let has_acked = batch.has_acked(cpu);
     assert!(rt; !has_acked);
     batch.acked(cpu);
+}
+
+/// Does the return, after which nothing is due.
+pub fn finish(rt: &impl Abort, batch: &mut Batch) {
+    let due = batch.due();
+    assert_eq!(rt; due, Due::Return);
+    batch.took();
+    assert_eq!(rt; batch.due(), Due::Idle);
+}
+
+/// Asserts that an update was refused for the clash at this address, with what was found there and what was expected.
+pub fn clashes(rt: &impl Abort, opened: Result<(), Clash>, at: u64, found: &[u8], expected: &[u8]) {
+    match opened {
+        Ok(()) => panic!(rt; "no clash"),
+        Err(clash) => {
+            assert_eq!(rt; clash.at, at);
+            assert_eq!(rt; clash.found.as_slice(), found);
+            assert_eq!(rt; clash.expected.as_slice(), expected);
+        }
+    }
 }

@@ -1,7 +1,7 @@
 //! Breakpoints of an update of two sites, and the update to its end.
 ghost use Rattle.std.specs.Prelude.{◌≡◌, length, None};
 
-use crate::frame::{Bytes, acknowledge, request, write};
+use crate::frame::{Bytes, acknowledge, finish, request, write};
 use insn_forms::{Change, Changes, Form};
 use int3_handler::{Handled, emulate, handle};
 use poke_batch::{Batch, Due};
@@ -92,10 +92,7 @@ fn two_sites_are_poked_and_their_breakpoints_handled(rt: HostRuntime) {
     write(&rt, &mut batch, FIRST, 0xeb);
     write(&rt, &mut batch, SECOND, 0x0f);
     synchronise(&rt, &mut batch);
-    let due = batch.due();
-    assert_eq!(rt; due, Due::Return);
-    batch.took();
-    assert_eq!(rt; batch.due(), Due::Idle);
+    finish(&rt, &mut batch);
 }
 
 #[test]

@@ -1,7 +1,7 @@
 //! An update of one site, from its opening to its end.
 ghost use Rattle.std.specs.Prelude.{◌≡◌, length, None};
 
-use crate::frame::{Bytes, acknowledge, request, write};
+use crate::frame::{Bytes, acknowledge, clashes, finish, request, write};
 use insn_forms::{Change, Changes, Form};
 use poke_batch::{Batch, Clash, Due};
 use std::alloc::Global;
@@ -59,28 +59,20 @@ fn pokes_a_jump(rt: HostRuntime) {
     acknowledge(&rt, &mut batch, 0);
     acknowledge(&rt, &mut batch, 1);
 
-    let due = batch.due();
-    assert_eq!(rt; due, Due::Return);
-    batch.took();
-    assert_eq!(rt; batch.due(), Due::Idle);
+    finish(&rt, &mut batch);
 }
 
 #[test]
 fn refuses_a_site_that_holds_other_bytes(rt: HostRuntime) {
     let mut batch = Batch::new(rt.alloc(), 1, 2).expect(&rt, "memory");
-    match open(&rt, rt.alloc(), &mut batch, &[0xe9, 0xfb, 0x0f, 0x00, 0x00]) {
-        Ok(()) => panic!(rt; "no clash"),
-        Err(clash) => {
-            assert_eq!(rt; clash.at, 0x40_1000);
-            assert_eq!(rt;
-                clash.found.as_slice(),
-                [0xe9, 0xfb, 0x0f, 0x00, 0x00].as_slice()
-            );
-            assert_eq!(rt;
-                clash.expected.as_slice(),
-                [0x0f, 0x1f, 0x44, 0x00, 0x00].as_slice()
-            );
-        }
-    }
+    let found = [0xe9, 0xfb, 0x0f, 0x00, 0x00];
+    let opened = open(&rt, rt.alloc(), &mut batch, &found);
+    clashes(
+        &rt,
+        opened,
+        0x40_1000,
+        &found,
+        &[0x0f, 0x1f, 0x44, 0x00, 0x00],
+    );
     assert_eq!(rt; batch.due(), Due::Idle);
 }
